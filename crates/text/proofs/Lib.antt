@@ -1,0 +1,11 @@
+pub mod Fronts
+pub mod Naming
+pub mod Scans
+pub mod OneReading
+pub mod Spelling
+pub mod Formulas
+pub mod Headers
+pub mod Counting
+pub mod OneOutcome
+pub mod Faulty
+pub mod Strips
