@@ -1,7 +1,7 @@
 //! The operators of the logic. docs/LANGUAGE.md says what each means.
 
 /// The operators over one row.
-#[derive(Clone, Copy, Debug, PartialEq, Eq)]
+#[derive(Clone, Copy, Debug, PartialEq)]
 pub enum UnaryOperator {
     /// `!`
     Not,
@@ -16,7 +16,7 @@ pub enum UnaryOperator {
 }
 
 /// The operators over two rows.
-#[derive(Clone, Copy, Debug, PartialEq, Eq)]
+#[derive(Clone, Copy, Debug, PartialEq)]
 pub enum BinaryOperator {
     /// `&`
     And,

@@ -3,7 +3,7 @@ ghost use mathlib.Core.Path.{_≡_};
 ghost use Rattle.rule.specs.Refusals.{number, layer};
 
 /// The reasons for a refusal. docs/REFUSALS.md has when each is due.
-#[derive(Clone, Copy, Debug, PartialEq, Eq)]
+#[derive(Clone, Copy)]
 pub enum Refusal {
     ShortStrip,
     LongText,
@@ -27,7 +27,7 @@ pub enum Refusal {
 }
 
 /// The part of the module that a refusal comes from.
-#[derive(Clone, Copy, Debug, PartialEq, Eq)]
+#[derive(Clone, Copy)]
 pub enum Layer {
     Strip,
     Text,
@@ -41,7 +41,7 @@ pub enum Layer {
 }
 
 /// A refusal with its place and the number of the sample it concerns, each 0 where none applies.
-#[derive(Clone, Copy, Debug, PartialEq, Eq)]
+#[derive(Clone, Copy)]
 pub struct Fault {
     pub refusal: Refusal,
     pub place: usize,

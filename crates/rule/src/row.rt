@@ -1,5 +1,6 @@
 //! A row: one occurrence of a formula, over the rows before it.
 ghost use mathlib.Core.Path.{_≡_};
+ghost use Rattle.std.specs.shelf.Lists.{countBy};
 ghost use Rattle.rule.specs.Rows.{remembering};
 use super::operator::BinaryOperator;
 use super::operator::UnaryOperator;
@@ -9,7 +10,7 @@ use crate::operator::BinaryOperatorPartialEq;
 use crate::operator::UnaryOperatorPartialEq;
 
 /// One occurrence of a formula. An operand is the number of an earlier row.
-#[derive(Clone, Copy, Debug, PartialEq, Eq)]
+#[derive(Clone, Copy, Debug, PartialEq)]
 pub enum Row {
     Constant(bool),
     /// The reading of the signal of this number.
@@ -32,4 +33,17 @@ impl Row {
             ),
         }
     }
+}
+
+/// How many of the rows remember.
+pub fn count_remembering(rows: &[Row]) -> usize
+    ensures counts { λ r. ⌜ r ≡ countBy remembering (now (rows .entry)) ⌝ }
+{
+    let mut n = 0;
+    for row in rows {
+        if row.remembers() {
+            n += 1;
+        }
+    }
+    n
 }

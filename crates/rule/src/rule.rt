@@ -1,17 +1,20 @@
 //! A rule: lent rows that are fit, and how they are taken up.
 ghost use mathlib.Core.Path.{_≡_};
-ghost use mathlib.Core.Bool.{true};
+ghost use mathlib.Core.Bool.{true, false};
+ghost use mathlib.Core.List.{[], _∷_};
 ghost use Prim.Native.Nat.{ℕ, _+_, _-_, _<_, _≤_};
 ghost use lib.ListN.{length, getD, take};
 ghost use Rattle.std.specs.Orderings.{When};
 ghost use Rattle.std.specs.Results.{Cases};
 ghost use Rattle.std.specs.shelf.Lists.{countBy};
+ghost use Rattle.rule.specs.declared.row.Row.the-variants.{Constant};
 ghost use Rattle.rule.specs.Rows.{remembering};
 ghost use Rattle.rule.specs.Refusals.{number};
 ghost use Rattle.rule.specs.Fit.{rowFits, EachFits, Fit, Unfit, Placeless};
 use super::refusal::Fault;
 use super::refusal::Refusal;
 use super::row::Row;
+use super::row::count_remembering;
 
 /// The most signals that a rule may have.
 pub const MOST_SIGNALS: usize = 16;
@@ -57,24 +60,12 @@ fn fits(rows: &[Row], signals: usize) -> bool
     true
 }
 
-/// How many of the rows remember.
-fn count_remembering(rows: &[Row]) -> usize
-    ensures counts { λ r. ⌜ r ≡ countBy remembering (now (rows .entry)) ⌝ }
-{
-    let mut n = 0;
-    for i in 0..rows.len() {
-        if rows[i].remembers() {
-            n += 1;
-        }
-    }
-    n
-}
-
 const NEVER: [Row; 1] = [Row::Constant(false)];
 
 impl<'a> Rule<'a> {
     /// The rule `0` over one signal: a place to take up another.
     pub fn idle() -> Rule<'a>
+        ensures constant_no { λ r. ⌜ now (r .rows) ≡ Constant false ∷ [] ⌝ }
         ensures one_signal { λ r. ⌜ r .signals ≡ 1 ⌝ }
     {
         Rule {
@@ -99,8 +90,8 @@ impl<'a> Rule<'a> {
 
     /// Takes up the first `count` rows as the rule, over so many signals. A refusal leaves the rule as it was.
     pub fn take_up(&mut self, rows: &'a [Row], count: usize, signals: usize) -> Result<(), Fault>
-        ensures taken_if_fit { λ r. ⌜ Cases r (λ _. (count ≤ length (now (rows .entry))) × Fit signals (take count (now (rows .entry)))) (λ f. Unfit (now (rows .entry)) count signals (number (f .refusal)) × Placeless f) ⌝ }
-        ensures rule_then { λ r. ⌜ Cases r (λ _. (now (now (self .exit) .rows) ≡ take count (now (rows .entry))) × (now (self .exit) .signals ≡ signals)) (λ _. now (self .exit) ≡ now (self .entry)) ⌝ }
+        ensures taken_exactly_if_fit { λ r. ⌜ Cases r (λ _. (count ≤ length (now (rows .entry))) × Fit signals (take count (now (rows .entry)))) (λ f. Unfit (now (rows .entry)) count signals (number (f .refusal)) × Placeless f) ⌝ }
+        ensures new_rule_or_the_old { λ r. ⌜ Cases r (λ _. (now (now (self .exit) .rows) ≡ take count (now (rows .entry))) × (now (self .exit) .signals ≡ signals)) (λ _. now (self .exit) ≡ now (self .entry)) ⌝ }
     {
         if rows.len() < count {
             return Err(Fault {

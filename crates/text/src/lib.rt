@@ -8,8 +8,6 @@ mod token;
 
 pub use reading::read;
 pub use span::Counts;
-pub use span::CountsDebug;
-pub use span::CountsPartialEq;
 pub use span::Span;
 pub use span::SpanDebug;
 pub use span::SpanPartialEq;

@@ -5,7 +5,6 @@ mod tests {
     use rule::BinaryOperator;
     use rule::BinaryOperatorDebug;
     use rule::BinaryOperatorPartialEq;
-    use rule::FaultDebug;
     use rule::Row;
     use rule::RowDebug;
     use rule::RowPartialEq;
@@ -13,8 +12,6 @@ mod tests {
     use rule::UnaryOperatorDebug;
     use rule::UnaryOperatorPartialEq;
     use std::test::*;
-    use text::CountsDebug;
-    use text::CountsPartialEq;
     use text::Span;
     use text::SpanDebug;
     use text::SpanPartialEq;
@@ -249,12 +246,8 @@ mod tests {
     fn rows_come_inner_first() -> Result<(), Fail> {
         let mut rows = [Row::Constant(true); 64];
         let mut names = [Span { start: 7, len: 7 }; 16];
-        let counts = read(
-            b"hot door stamp : (stamp -> (!door S hot))",
-            &mut rows,
-            &mut names,
-        )?;
-        check_eq(counts, text::Counts { names: 3, rows: 6 })?;
+        let text = b"hot door stamp : (stamp -> (!door S hot))";
+        check(read(text, &mut rows, &mut names).is_ok())?;
         check_eq(rows[0], Row::Signal(2))?;
         check_eq(rows[1], Row::Signal(1))?;
         check_eq(rows[2], Row::Unary(UnaryOperator::Not, 1))?;

@@ -1,0 +1,6 @@
+mod Numbering
+mod Breaks
+mod Writing
+mod Pointing
+mod Cutting
+mod Made
