@@ -9,17 +9,15 @@ use lib.ListN.{length, getD, take, drop, length-append, length-drop}
 use lib.Seq.{take-append-le, drop-append-le, drop-append-seam, length-take-le}
 use Rattle.std.proofs.str.Laws.{order}
 use Rattle.std.proofs.shelf.Lists.{drop-all, getD-past, take-append-drop}
-use borrow.Author.Tests.{both-ways}
-use Rattle.std.specs.Results.{isErr}
 use Rattle.std.specs.declared.result.Result.{Result}
 use Rattle.std.specs.declared.result.Result.the-variants.{Ok, Err}
 use Rattle.rule.specs.declared.row.Row.{Row}
-use Rattle.rule.specs.declared.row.Row.the-variants.{Constant}
 use Rattle.rule.specs.declared.refusal.Fault.{Fault}
 use Rattle.text.specs.declared.span.Span.{Span}
 use Rattle.text.specs.declared.span.Counts.{Counts}
-use Rattle.text.specs.Texts.{noSpan, read, Room, Due, faulty, readable, outcome, Filled, Cleared, Left}
+use Rattle.text.specs.Texts.{faulty, readable, Filled, Cleared}
 use Rattle.text.specs.Readers.{TextTold, Within, AttemptTold}
+use Rattle.text.proofs.OneOutcome.{due-same}
 
 -- a loop that sets the places below i has cleared the first `most` of them
 pub all-cleared : {X : Type 0} (old new : List X) (v : X) (most i : ℕ) → length new ≡ length old → i ≡ min most (length old) → ((k : ℕ) → k < i → getD new k v ≡ v) → drop i new ≡ drop i old → Cleared most v old new
@@ -57,30 +55,18 @@ attempted text rows part-rows spans part-spans (Ok c) enough-rows enough-names s
     let b = t .names-filled .at-most in
     let rows-are = take-append-le (c .rows) part-rows (drop 64 rows) (omega arith) in
     let spans-are = take-append-le (c .names) part-spans (drop 16 spans) (omega arith) in
+    let is-due = readable (record { for-rows = enough-rows; for-names = enough-names }) short (t .readable) (cc) in
     record {
-      due = readable (record { for-rows = enough-rows; for-names = enough-names }) short (t .readable) (cc);
+      due = is-due;
+      only = λ o d. due-same d is-due;
       left = (front-filled 64 rows part-rows enough-rows rows-64 (c .rows) (t .rows-filled), front-filled 16 spans part-spans enough-names spans-16 (c .names) (t .names-filled));
     }
 attempted text rows part-rows spans part-spans (Err e) enough-rows enough-names short rows-64 spans-16 t = record {
   due = faulty (record { for-rows = enough-rows; for-names = enough-names }) short (t .due) refl;
+  only = λ o d. due-same d (faulty (record { for-rows = enough-rows; for-names = enough-names }) short (t .due) refl);
   left = (front-within 64 rows part-rows enough-rows rows-64, front-within 16 spans part-spans enough-names spans-16, t .no-sample);
 }
 
-module _ (text : List ℕ) (rows rows′ : List Row) (spans spans′ : List Span) where
-  -- a reading that was accepted leaves its strips as the attempt did
-  pub accepted : (r : Result Counts Fault) → isErr r ≡ false → AttemptTold text rows rows′ spans spans′ r → Left rows rows′ spans spans′ r
-  accepted (Ok c) ok t = t .left
-  accepted (Err e) ok t = absurd (both-ways true ok refl)
-
-  -- one that was refused clears them, and the outcome stays
-  module _ (cleared-rows : List Row) (cleared-spans : List Span) (cr : Cleared 64 (Constant false) rows′ cleared-rows) (cs : Cleared 16 noSpan spans′ cleared-spans) where
-    pub refused-due : (r : Result Counts Fault) → isErr r ≡ true → AttemptTold text rows rows′ spans spans′ r → Due text (length rows) (length spans) (outcome cleared-rows cleared-spans r)
-    refused-due (Ok c) err t = absurd (both-ways false refl err)
-    refused-due (Err e) err t = t .due
-
-    pub refused-left : (r : Result Counts Fault) → isErr r ≡ true → AttemptTold text rows rows′ spans spans′ r → Left rows cleared-rows spans cleared-spans r
-    refused-left (Ok c) err t = absurd (both-ways false refl err)
-    refused-left (Err e) err t = (after cr (t .left .0), after cs (t .left .1), t .left .2)
-      where
-        after : {X : Type 0} {n : ℕ} {x : X} {old mid new : List X} → Cleared n x mid new → Within n old mid → Cleared n x old new
-        after c w = record { same-length = c .same-length ∙ w .same-length; blank = c .blank; others-kept = c .others-kept ∙ w .others-kept }
+-- what a refused reading leaves once the places that it may fill are cleared
+pub then-cleared : {X : Type 0} {n : ℕ} {x : X} {old mid new : List X} → Cleared n x mid new → Within n old mid → Cleared n x old new
+then-cleared c w = record { same-length = c .same-length ∙ w .same-length; blank = c .blank; others-kept = c .others-kept ∙ w .others-kept }

@@ -25,7 +25,7 @@ use Rattle.text.specs.Scanning.{posOf}
 use Rattle.text.specs.Grammar.{Tree, names, Declared, Rows}
 use Rattle.text.specs.Begun.{spell, size, Part, spellPart, ended, Begun, spellBegun, endedIn, Alive, Dead, put}
 use Rattle.text.specs.Faults.{fault}
-use Rattle.text.specs.Texts.{Fine, Spanned, Refused, Readable, Filled, Due, outcome}
+use Rattle.text.specs.Texts.{Fine, Spanned, Refused, Readable, Filled, Outcome, Due, outcome}
 
 -- a token that a formula may hold: a name is declared and short
 abbrev pub Good : List (List ℕ) → Tok → Type 0
@@ -223,4 +223,5 @@ pub record Within {X : Type 0} (n : ℕ) (old new : List X) : Type 0 where
 
 pub record AttemptTold (text : List ℕ) (rows rows′ : List Row) (spans spans′ : List Span) (r : Result Counts Fault) : Type 0 where
   pub due : Due text (length rows) (length spans) (outcome rows′ spans′ r)
+  pub only : (o : Outcome) → Due text (length rows) (length spans) o → o ≡ outcome rows′ spans′ r
   pub left : Cases r (λ c. Filled (c .rows) 64 rows rows′ × Filled (c .names) 16 spans spans′) (λ e. Within 64 rows rows′ × Within 16 spans spans′ × (e .sample ≡ 0))

@@ -89,10 +89,12 @@ pub fn read(text: &[u8], rows: &mut [Row], names: &mut [Span]) -> Result<Counts,
     ensures no_other_is_due { λ r. ⌜ ((o : Outcome) → Due (now (text .entry)) (length (now (rows .entry))) (length (now (names .entry))) o → o ≡ outcome (now (rows .exit)) (now (names .exit)) r) ⌝ }
     ensures strips_left { λ r. ⌜ Left (now (rows .entry)) (now (rows .exit)) (now (names .entry)) (now (names .exit)) r ⌝ }
 {
-    let outcome = attempt(text, rows, names);
-    if outcome.is_err() {
-        clear(rows, MOST_ROWS, Row::Constant(false));
-        clear(names, MOST_NAMES, Span { start: 0, len: 0 });
+    match attempt(text, rows, names) {
+        Ok(counts) => Ok(counts),
+        Err(fault) => {
+            clear(rows, MOST_ROWS, Row::Constant(false));
+            clear(names, MOST_NAMES, Span { start: 0, len: 0 });
+            Err(fault)
+        }
     }
-    outcome
 }
