@@ -1,4 +1,5 @@
 //! The desk tool: reads a rule file, and prints what the rule is made of or why it is refused.
+use case_report::list_cases;
 use report::HELP;
 use report::WRONG_USAGE;
 use report::check_text;
@@ -22,6 +23,7 @@ fn obey(rt: &LibcRuntime, command: &str, file: &str) -> io::Result<()> {
     match command {
         "check" => rt.print(check_text(heap, bytes_of(rt, file).as_slice())?.as_str()),
         "rows" => rt.print(list_rows(heap, bytes_of(rt, file).as_slice())?.as_str()),
+        "cases" => rt.print(list_cases(heap)?.as_str()),
         "help" => rt.print(HELP),
         _ => rt.print(WRONG_USAGE),
     }

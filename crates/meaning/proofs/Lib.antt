@@ -1,0 +1,4 @@
+pub mod Recurrence
+pub mod Causal
+pub mod Carrying
+pub mod Spelling

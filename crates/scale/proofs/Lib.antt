@@ -1,0 +1,4 @@
+pub mod Order
+pub mod Laws
+pub mod Bitwise
+pub mod Firm

@@ -1,0 +1,10 @@
+use native.Mathlib.Omega.{arith}
+use Rattle.std.proofs.shelf.Signed.{ints, clamps}
+use Rattle.scale.proofs.Laws.{same-margin}
+use Rattle.scale.proofs.margin.scale.MarginScale.join.Needs as need
+
+pub returns-then-self-other : need.returns-then-self-other
+returns-then-self-other c = record { joined = same-margin _ _ (omega (arith, ints, clamps)) }
+
+pub returns : need.returns
+returns c = record { joined = same-margin _ _ (omega (arith, ints, clamps)) }
