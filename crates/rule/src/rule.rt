@@ -1,9 +1,9 @@
 //! A rule: lent rows that are fit, and how they are taken up.
 ghost use mathlib.Core.Path.{_≡_};
-ghost use mathlib.Core.Bool.{true, false};
+ghost use mathlib.Core.Bool.{false};
 ghost use mathlib.Core.List.{[], _∷_};
-ghost use Prim.Native.Nat.{ℕ, _+_, _-_, _<_, _≤_};
-ghost use lib.ListN.{length, getD, take};
+ghost use Prim.Native.Nat.{_≤_};
+ghost use lib.ListN.{length, take};
 ghost use Rattle.std.specs.Orderings.{When};
 ghost use Rattle.std.specs.Results.{Cases};
 ghost use Rattle.std.specs.shelf.Lists.{countBy};
@@ -17,9 +17,9 @@ use super::row::Row;
 use super::row::count_remembering;
 
 /// The most signals that a rule may have.
-pub const MOST_SIGNALS: usize = 16;
+const MOST_SIGNALS: usize = 16;
 /// The most rows that a rule may have.
-pub const MOST_ROWS: usize = 384;
+const MOST_ROWS: usize = 384;
 
 /// A rule over lent rows. The last row is the rule itself.
 #[derive(Clone, Copy)]

@@ -1,19 +1,11 @@
 //! Translations from scale to scale, which keep all five operations.
 ghost use mathlib.Core.Path.{_≡_};
 ghost use Rattle.std.specs.Options.{Cases as BySome};
-ghost use Prim.Native.Nat.{_<_, _≤_};
+ghost use Prim.Native.Nat.{_≤_};
 ghost use Rattle.scale.specs.Algebra.{Translation};
 ghost use Rattle.scale.specs.TwoWay.{twoWay, held};
-ghost use Rattle.scale.specs.Lights.{lights};
-ghost use Rattle.scale.specs.Lanes.{lanes as «all-lanes», laneOf};
-ghost use Rattle.scale.specs.Margins.{margins};
 ghost use Rattle.scale.specs.Translations.{firm, OneLane};
 use super::Lanes;
-use super::LanesScale;
-use super::Light;
-use super::LightScale;
-use super::Margin;
-use super::MarginScale;
 use super::Scale;
 use super::TwoWay;
 

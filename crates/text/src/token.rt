@@ -1,6 +1,6 @@
 //! The tokens of a rule text.
 ghost use mathlib.Core.Path.{_≡_};
-ghost use Prim.Native.Nat.{ℕ, _+_, _-_, _^_, _<_, _≤_};
+ghost use Prim.Native.Nat.{ℕ, _+_, _^_, _<_, _≤_};
 ghost use lib.ListN.{length, getD};
 ghost use lib.Dec.{T};
 ghost use Rattle.text.specs.Tokens.{blank, nameByte};
