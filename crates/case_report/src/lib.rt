@@ -1,4 +1,6 @@
 //! The worked cases as text.
+#![tactic(auto)]
+
 mod line;
 mod listing;
 mod word;

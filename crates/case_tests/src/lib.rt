@@ -1,4 +1,5 @@
 //! The worked cases, read from their texts and run through the naive evaluator.
+#![tactic(auto)]
 
 #[cfg(test)]
 mod tests {

@@ -1,4 +1,6 @@
 //! Charges worked through by hand.
+#![tactic(auto)]
+
 mod case;
 mod list;
 

@@ -1,5 +1,7 @@
 //! The naive evaluator: a rule's value at a sample, straight from the definitions, with no memory from sample to sample.
 //! It takes time exponential in the depth of a rule, and is what the monitors are run beside in tests.
+#![tactic(auto)]
+
 ghost use Rattle.std.specs.Prelude.{◌≡◌, ◌<◌, length};
 ghost use Rattle.meaning.specs.Meaning.{value, constant_value, unary_value, binary_value, join_of, meet_of, up_to, after, always as always_value, since as since_value};
 ghost use Rattle.meaning.specs.Spelled.{said};

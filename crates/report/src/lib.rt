@@ -1,4 +1,6 @@
 //! The texts that the tools print, made by functions on values.
+#![tactic(auto)]
+
 mod check;
 mod excerpt;
 mod listing;

@@ -1,4 +1,5 @@
 //! Tests of the reports.
+#![tactic(auto)]
 
 #[cfg(test)]
 mod tests {

@@ -1,4 +1,6 @@
 //! Rules as rows: operators, rows, the rule that a monitor works on, and the refusals of every call.
+#![tactic(auto)]
+
 mod operator;
 mod refusal;
 mod row;

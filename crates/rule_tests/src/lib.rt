@@ -1,4 +1,5 @@
 //! Rows that are a rule and rows that are none, beside the proofs.
+#![tactic(auto)]
 
 #[cfg(test)]
 mod tests {

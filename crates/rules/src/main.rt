@@ -1,4 +1,6 @@
 //! The desk tool: reads a rule file, and prints what the rule is made of or why it is refused.
+#![tactic(auto)]
+
 use case_report::list_cases;
 use report::{HELP, WRONG_USAGE, check_text, list_rows};
 use std::{env, fs, io};

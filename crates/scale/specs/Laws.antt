@@ -3,7 +3,7 @@ use Rattle.std.specs.Prelude.{◌≡◌, ℕ, ◌<◌, true, false, ℤ, pos, ne
 use Rattle.std.proofs.Common.{sym, ap, ◌∙◌, arith}
 use Rattle.std.proofs.Math.Path.{fun_ext}
 use mathlib.Core.HLevel.{is_prop→PathP}
-use denote.Struct.Props.{≤ℤ_prop}
+use denote.Struct.Props.{props}
 use Rattle.std.specs.Int.{int_max, int_min}
 use Rattle.std.proofs.lemmas.Int.{ints, clamps}
 use Rattle.scale.specs.declared.light.Light.{Light}
@@ -133,8 +133,8 @@ lights_laws = level_laws {level = level_of} {top = 1} (record {
 pub same_margin : (u v : Margin) → u.level ≡ v.level → u ≡ v
 same_margin u v e = λ i. record {
   level = e i;
-  low = is_prop→PathP (λ j. negsuc 29999 ≤ℤ e j) (λ j. ≤ℤ_prop) u.low v.low i;
-  high = is_prop→PathP (λ j. e j ≤ℤ pos 30000) (λ j. ≤ℤ_prop) u.high v.high i;
+  low = is_prop→PathP (λ j. negsuc 29999 ≤ℤ e j) (λ j. hlevel props) u.low v.low i;
+  high = is_prop→PathP (λ j. e j ≤ℤ pos 30000) (λ j. hlevel props) u.high v.high i;
 }
 
 pub margins_laws : Laws margins

@@ -1,4 +1,6 @@
 //! Scales of truth: what a scale is, and the four that the recorder has.
+#![tactic(auto)]
+
 mod lanes;
 mod light;
 mod margin;

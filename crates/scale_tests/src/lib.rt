@@ -1,4 +1,5 @@
 //! The four scales on examples, beside their proofs.
+#![tactic(auto)]
 
 #[cfg(test)]
 mod tests {

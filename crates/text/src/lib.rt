@@ -1,4 +1,6 @@
 //! Rule texts: bytes to tokens to rows.
+#![tactic(auto)]
+
 mod fault;
 mod formula;
 mod header;

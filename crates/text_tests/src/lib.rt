@@ -1,4 +1,5 @@
 //! Texts good and bad, beside the proofs of the reader.
+#![tactic(auto)]
 
 #[cfg(test)]
 mod tests {

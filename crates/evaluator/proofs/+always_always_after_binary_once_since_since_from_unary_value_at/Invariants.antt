@@ -4,8 +4,8 @@ use Rattle.evaluator.specs.Rows.{row_value}
 use Rattle.evaluator.proofs.+always_always_after_binary_once_since_since_from_unary_value_at.Given as goal
 
 -- an operator stands above its operands' rows, and below its own
-abbrev pub decreases-value-at : goal.decreases-value-at
-decreases-value-at g l = 5 * l.i
+abbrev pub decreases-value_at : goal.decreases-value_at
+decreases-value_at g l = 5 * l.i
 
 abbrev pub decreases-once : goal.decreases-once
 decreases-once g l = 5 * l.a + 1
@@ -13,11 +13,11 @@ decreases-once g l = 5 * l.a + 1
 abbrev pub decreases-always : goal.decreases-always
 decreases-always g l = 5 * l.a + 1
 
-abbrev pub decreases-always-after : goal.decreases-always-after
-decreases-always-after g l = 5 * l.a + 1
+abbrev pub decreases-always_after : goal.decreases-always_after
+decreases-always_after g l = 5 * l.a + 1
 
-abbrev pub decreases-since-from : goal.decreases-since-from
-decreases-since-from g l = 5 * max l.a l.b + 2
+abbrev pub decreases-since_from : goal.decreases-since_from
+decreases-since_from g l = 5 * max l.a l.b + 2
 
 abbrev pub decreases-since : goal.decreases-since
 decreases-since g l = 5 * max l.a l.b + 3
@@ -46,14 +46,14 @@ invariant-always-loop-k g l =
 abbrev pub decreases-always-loop-k : goal.decreases-always-loop-k
 decreases-always-loop-k g l = l.t - l.k
 
-abbrev pub invariant-always-after-loop-j : goal.invariant-always-after-loop-j
-invariant-always-after-loop-j g l =
+abbrev pub invariant-always_after-loop-j : goal.invariant-always_after-loop-j
+invariant-always_after-loop-j g l =
     (l.j ≤ l.t)
     × (g.S.Scale.means l.all
     ≡ meet_of g.S.Scale.ops (after l.k l.j) (row_value g.S.Scale.ops g.S.Scale.means l.rule l.readings l.a))
 
-abbrev pub decreases-always-after-loop-j : goal.decreases-always-after-loop-j
-decreases-always-after-loop-j g l = l.t - l.j
+abbrev pub decreases-always_after-loop-j : goal.decreases-always_after-loop-j
+decreases-always_after-loop-j g l = l.t - l.j
 
 abbrev pub invariant-since-loop-k : goal.invariant-since-loop-k
 invariant-since-loop-k g l =

@@ -6,6 +6,6 @@ use Rattle.meaning.proofs.laws.meaning_stands.Goals as goal
 pub returns : goal.returns
 returns g c = record {
   recurrences = recurrences g.met.S.Scale.lawful;
-  only-the-past = λ f t charge other e. value_causal g.S.Scale.ops f t charge other e;
-  carried-by-translations = λ h T f charge t. value_kept T f charge t;
+  only_the_past = λ f t charge other e. value_causal g.S.Scale.ops f t charge other e;
+  carried_by_translations = λ h T f charge t. value_kept T f charge t;
 }

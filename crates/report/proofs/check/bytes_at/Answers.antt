@@ -3,4 +3,4 @@ use Rattle.report.proofs.Cutting.{drop_min}
 use Rattle.report.proofs.check.bytes_at.Goals as goal
 
 pub returns : goal.returns
-returns c = record { by-definition = c.first.ensures.by-definition ∙ ap (take c.args.span.len) (drop_min c.args.span.start c.min.result c.args.text.now c.min.ensures) }
+returns c = record { by_definition = c.first.ensures.by_definition ∙ ap (take c.args.span.len) (drop_min c.args.span.start c.min.result c.args.text.now c.min.ensures) }

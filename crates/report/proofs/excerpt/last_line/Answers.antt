@@ -11,4 +11,4 @@ loop-i-preserved c =
     ]
 
 pub returns : goal.returns
-returns c = record { by-definition = last_all _ c.loop-i.i _ _ c.loop-i-test.false c.loop-i.invariant.1 }
+returns c = record { by_definition = last_all _ c.loop-i.i _ _ c.loop-i-test.false c.loop-i.invariant.1 }

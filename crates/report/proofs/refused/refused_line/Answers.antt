@@ -10,7 +10,7 @@ line n place name = codes "refused " ++ (decimal n ++ (codes " at " ++ (decimal 
 pub returns : goal.returns
 returns c =
     let place = c.args.fault.place in
-    let code = c.code-code.ensures.by-definition in
-    let layer = c.layer-name-layer.ensures.by-definition ∙ ap layer_name c.origin.ensures.by-definition in
-    let whole : IfOk c.format.result (λ s. string_bytes s ≡ line c.code-code.result place c.layer-name-layer.result.now) = c.format.ensures.ok in
+    let code = c.code-code.ensures.by_definition in
+    let layer = c.layer_name-layer.ensures.by_definition ∙ ap layer_name c.origin.ensures.by_definition in
+    let whole : IfOk c.format.result (λ s. string_bytes s ≡ line c.code-code.result place c.layer_name-layer.result.now) = c.format.ensures.ok in
     record { line = IfOk-weaker c.format.result _ _ (λ s e. e ∙ (λ j. line (code j) place (layer j))) whole }

@@ -12,8 +12,8 @@ loop-row-preserved c =
     let lt = c.loop-row-test.true in
     let e = c.loop-row.invariant.0 in
     elim c.if-remembers.branch [
-      | then-remembers w ↦ let m = count_by_more_yes remembering rows i _ lt (sym w.if-remembers.ensures.by-operator) in (omega (arith, w.n-is), omega (arith, w.n-is))
-      | else-remembers w ↦ let m = count_by_more_no remembering rows i _ lt (sym w.if-remembers.ensures.by-operator) in (omega (arith, w.n-is), omega (arith, w.n-is))
+      | then-remembers w ↦ let m = count_by_more_yes remembering rows i _ lt (sym w.if-remembers.ensures.by_operator) in (omega (arith, w.n-is), omega (arith, w.n-is))
+      | else-remembers w ↦ let m = count_by_more_no remembering rows i _ lt (sym w.if-remembers.ensures.by_operator) in (omega (arith, w.n-is), omega (arith, w.n-is))
     ]
 
 pub returns : goal.returns

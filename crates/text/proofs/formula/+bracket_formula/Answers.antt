@@ -13,127 +13,127 @@ use Rattle.text.proofs.formula.+bracket_formula.Goals as goal
 
 -- the readers of a formula
 
-pub formula-returns-in-err-step : goal.formula-returns-in-err-step
-formula-returns-in-err-step t c =
-    let p = err_from_is_err_and c.from-residual.result c.from-residual.ensures.1 in
-    record { formula-read = rw (p.1, p.2) (start_refused _ _ _ _ _ (omega arith) (no_token _ refl c.in-err-step.ensures.next-item)) }
+pub formula-returns-in_err-step : goal.formula-returns-in_err-step
+formula-returns-in_err-step t c =
+    let p = err_from_is_err_and c.from_residual.result c.from_residual.ensures.1 in
+    record { formula_read = rw (p.1, p.2) (start_refused _ _ _ _ _ (omega arith) (no_token _ refl c.in_err-step.ensures.next_item)) }
 
 pub formula-returns-in-Some-Constant : goal.formula-returns-in-Some-Constant
 formula-returns-in-Some-Constant t c =
-    let e : c.in-ok-step.step.token ≡ Some (Constant c.in-Some-Constant.value) = grind arith in
-    let s = step_at c.args.from _ (Constant c.in-Some-Constant.value) _ c.in-ok-step.step.after c.in-ok-step.ensures.next-item e in
-    record { formula-read = lay_all _ [] c.args.from _ _ _ _ _ (truth c.in-Some-Constant.value) (constant c.in-Some-Constant.value ∷ []) [] (row.Constant c.in-Some-Constant.value) _ _ _ refl (ends_one s) (tt, tt) refl refl refl (omega arith) (omega arith) c.lay.ensures.laid-if-room }
+    let e : c.in_ok-step.step.token ≡ Some (Constant c.in-Some-Constant.value) = grind arith in
+    let s = step_at c.args.from _ (Constant c.in-Some-Constant.value) _ c.in_ok-step.step.after c.in_ok-step.ensures.next_item e in
+    record { formula_read = lay_all _ [] c.args.from _ _ _ _ _ (truth c.in-Some-Constant.value) (constant c.in-Some-Constant.value ∷ []) [] (row.Constant c.in-Some-Constant.value) _ _ _ refl (ends_one s) (tt, tt) refl refl refl (omega arith) (omega arith) c.lay.ensures.laid_if_room }
 
-pub formula-returns-in-ok-signal : goal.formula-returns-in-ok-signal
-formula-returns-in-ok-signal t c =
-    let e : c.in-ok-step.step.token ≡ Some (Name c.in-Some-Name.name) = grind arith in
-    let s = step_at c.args.from _ (Name c.in-Some-Name.name) _ c.in-ok-step.step.after c.in-ok-step.ensures.next-item e in
-    let n = c.in-ok-signal.ensures.if-declared in
-    record { formula-read = lay_all _ [] c.args.from _ _ _ _ _ (name c.in-Some-Name.name.now) (named c.in-Some-Name.name.now ∷ []) [] (row.Signal c.in-ok-signal.signal) _ _ _ refl (ends_one s) ((n.0, (c.in-ok-signal.signal, n.1)), tt) (c.in-ok-signal.signal, n.1, refl) refl refl (omega arith) (omega arith) c.lay-in-Some-Name.ensures.laid-if-room }
+pub formula-returns-in_ok-signal : goal.formula-returns-in_ok-signal
+formula-returns-in_ok-signal t c =
+    let e : c.in_ok-step.step.token ≡ Some (Name c.in-Some-Name.name) = grind arith in
+    let s = step_at c.args.from _ (Name c.in-Some-Name.name) _ c.in_ok-step.step.after c.in_ok-step.ensures.next_item e in
+    let n = c.in_ok-signal.ensures.if_declared in
+    record { formula_read = lay_all _ [] c.args.from _ _ _ _ _ (name c.in-Some-Name.name.now) (named c.in-Some-Name.name.now ∷ []) [] (row.Signal c.in_ok-signal.signal) _ _ _ refl (ends_one s) ((n.0, (c.in_ok-signal.signal, n.1)), tt) (c.in_ok-signal.signal, n.1, refl) refl refl (omega arith) (omega arith) c.lay-in-Some-Name.ensures.laid_if_room }
 
-pub formula-returns-in-err-signal : goal.formula-returns-in-err-signal
-formula-returns-in-err-signal t c =
-    let e : c.in-ok-step.step.token ≡ Some (Name c.in-Some-Name.name) = grind arith in
-    let s = step_at c.args.from _ (Name c.in-Some-Name.name) _ c.in-ok-step.step.after c.in-ok-step.ensures.next-item e in
-    let p = err_from_is_err_and c.from-residual-in-err-signal.result c.from-residual-in-err-signal.ensures.1 in
-    record { formula-read = rw (p.1, p.2) (name_refused _ _ _ _ _ _ _ _ (omega arith) s c.in-err-signal.ensures.if-declared) }
+pub formula-returns-in_err-signal : goal.formula-returns-in_err-signal
+formula-returns-in_err-signal t c =
+    let e : c.in_ok-step.step.token ≡ Some (Name c.in-Some-Name.name) = grind arith in
+    let s = step_at c.args.from _ (Name c.in-Some-Name.name) _ c.in_ok-step.step.after c.in_ok-step.ensures.next_item e in
+    let p = err_from_is_err_and c.from_residual-in_err-signal.result c.from_residual-in_err-signal.ensures.1 in
+    record { formula_read = rw (p.1, p.2) (name_refused _ _ _ _ _ _ _ _ (omega arith) s c.in_err-signal.ensures.if_declared) }
 
 pub formula-formula-requires : goal.formula-formula-requires
 formula-formula-requires t c =
-    let e : c.in-ok-step.step.token ≡ Some (Unary c.in-Some-Unary.operator) = grind arith in
-    let s = step_onto _ _ _ _ (step_at c.args.from _ _ _ c.in-ok-step.step.after c.in-ok-step.ensures.next-item e) in
+    let e : c.in_ok-step.step.token ≡ Some (Unary c.in-Some-Unary.operator) = grind arith in
+    let s = step_onto _ _ _ _ (step_at c.args.from _ _ _ c.in_ok-step.step.after c.in_ok-step.ensures.next_item e) in
     (omega arith, (omega arith, (omega arith, c.requires.2)))
 
-pub formula-returns-in-err-inner : goal.formula-returns-in-err-inner
-formula-returns-in-err-inner t c =
-    let e : c.in-ok-step.step.token ≡ Some (Unary c.in-Some-Unary.operator) = grind arith in
-    let s = step_at c.args.from _ (Unary c.in-Some-Unary.operator) _ c.in-ok-step.step.after c.in-ok-step.ensures.next-item e in
-    let p = err_from_is_err_and c.from-residual-in-err-inner.result c.from-residual-in-err-inner.ensures.1 in
-    record { formula-read = rw (p.1, p.2) (under_refused c.in-Some-Unary.operator s c.in-err-inner.ensures.formula-read) }
+pub formula-returns-in_err-inner : goal.formula-returns-in_err-inner
+formula-returns-in_err-inner t c =
+    let e : c.in_ok-step.step.token ≡ Some (Unary c.in-Some-Unary.operator) = grind arith in
+    let s = step_at c.args.from _ (Unary c.in-Some-Unary.operator) _ c.in_ok-step.step.after c.in_ok-step.ensures.next_item e in
+    let p = err_from_is_err_and c.from_residual-in_err-inner.result c.from_residual-in_err-inner.ensures.1 in
+    record { formula_read = rw (p.1, p.2) (under_refused c.in-Some-Unary.operator s c.in_err-inner.ensures.formula_read) }
 
-pub formula-overflow-sub-inner : goal.formula-overflow-sub-inner
-formula-overflow-sub-inner t c =
-    let r = c.in-ok-inner.ensures.formula-read in
+pub formula-overflow_sub-inner : goal.formula-overflow_sub-inner
+formula-overflow_sub-inner t c =
+    let r = c.in_ok-inner.ensures.formula_read in
     omega (arith, size_pos r.tree, r.filled, r.sized)
 
 pub formula-bracket-requires : goal.formula-bracket-requires
 formula-bracket-requires t c =
-    let e : c.in-ok-step.step.token ≡ Some Open = grind arith in
-    let s = step_onto _ _ _ _ (step_at c.args.from _ _ _ c.in-ok-step.step.after c.in-ok-step.ensures.next-item e) in
+    let e : c.in_ok-step.step.token ≡ Some Open = grind arith in
+    let s = step_onto _ _ _ _ (step_at c.args.from _ _ _ c.in_ok-step.step.after c.in_ok-step.ensures.next_item e) in
     (omega arith, (omega arith, (omega arith, c.requires.2)))
 
-pub formula-returns-in-ok-inner : goal.formula-returns-in-ok-inner
-formula-returns-in-ok-inner t c =
-    let e : c.in-ok-step.step.token ≡ Some (Unary c.in-Some-Unary.operator) = grind arith in
-    let s = step_at c.args.from _ (Unary c.in-Some-Unary.operator) _ c.in-ok-step.step.after c.in-ok-step.ensures.next-item e in
-    record { formula-read = under_formed _ c.args.from c.in-ok-step.step.after _ _ _ _ _ _ _ _ s c.in-ok-inner.ensures.formula-read c.lay-in-Some-Unary.ensures.laid-if-room }
+pub formula-returns-in_ok-inner : goal.formula-returns-in_ok-inner
+formula-returns-in_ok-inner t c =
+    let e : c.in_ok-step.step.token ≡ Some (Unary c.in-Some-Unary.operator) = grind arith in
+    let s = step_at c.args.from _ (Unary c.in-Some-Unary.operator) _ c.in_ok-step.step.after c.in_ok-step.ensures.next_item e in
+    record { formula_read = under_formed _ c.args.from c.in_ok-step.step.after _ _ _ _ _ _ _ _ s c.in_ok-inner.ensures.formula_read c.lay-in-Some-Unary.ensures.laid_if_room }
 
 pub formula-returns-in-Some-Open : goal.formula-returns-in-Some-Open
 formula-returns-in-Some-Open t c =
-    let e : c.in-ok-step.step.token ≡ Some (Open) = grind arith in
-    let s = step_at c.args.from _ (Open) _ c.in-ok-step.step.after c.in-ok-step.ensures.next-item e in
-    record { formula-read = open_formed _ c.args.from c.in-ok-step.step.after _ _ _ _ _ s c.bracket.ensures.bracket-read }
+    let e : c.in_ok-step.step.token ≡ Some (Open) = grind arith in
+    let s = step_at c.args.from _ (Open) _ c.in_ok-step.step.after c.in_ok-step.ensures.next_item e in
+    record { formula_read = open_formed _ c.args.from c.in_ok-step.step.after _ _ _ _ _ s c.bracket.ensures.bracket_read }
 
-apart : (t : ℕ) (c : goal.formula-After-refuse t) (u : Token) → c.in-ok-step.step.token ≡ Some u → Opening (shown u) → ⊥
+apart : (t : ℕ) (c : goal.formula-After-refuse t) (u : Token) → c.in_ok-step.step.token ≡ Some u → Opening (shown u) → ⊥
 apart t c u e w = grind arith
 
 pub formula-returns-in-Some-Colon : goal.formula-returns-in-Some-Colon
 formula-returns-in-Some-Colon t c =
-    record { formula-read = rw c.refuse.ensures.at_place (start_refused _ _ _ _ _ (omega arith) (not_wanted Opening c.args.from _ _ c.in-ok-step.step.after c.in-ok-step.ensures.next-item (apart t c))) }
+    record { formula_read = rw c.refuse.ensures.at_place (start_refused _ _ _ _ _ (omega arith) (not_wanted Opening c.args.from _ _ c.in_ok-step.step.after c.in_ok-step.ensures.next_item (apart t c))) }
 
 -- the readers of a bracket
 
-pub bracket-returns-in-err-left : goal.bracket-returns-in-err-left
-bracket-returns-in-err-left t c =
-    let p = err_from_is_err_and c.from-residual.result c.from-residual.ensures.1 in
-    record { bracket-read = rw (p.1, p.2) (lift_at left_ctx [] refl refl tt refl (omega arith) c.in-err-left.ensures.formula-read) }
+pub bracket-returns-in_err-left : goal.bracket-returns-in_err-left
+bracket-returns-in_err-left t c =
+    let p = err_from_is_err_and c.from_residual.result c.from_residual.ensures.1 in
+    record { bracket_read = rw (p.1, p.2) (lift_at left_ctx [] refl refl tt refl (omega arith) c.in_err-left.ensures.formula_read) }
 
 pub bracket-operator-requires : goal.bracket-operator-requires
-bracket-operator-requires t c = let o = ends_onto c.in-ok-left.ensures.formula-read.ends in omega arith
+bracket-operator-requires t c = let o = ends_onto c.in_ok-left.ensures.formula_read.ends in omega arith
 
-pub bracket-returns-in-err-operator : goal.bracket-returns-in-err-operator
-bracket-returns-in-err-operator t c =
-    let p = err_from_is_err_and c.from-residual-in-err-operator.result c.from-residual-in-err-operator.ensures.1 in
-    record { bracket-read = rw (p.1, p.2) (left_refused _ c.args.from _ _ _ _ c.in-ok-left.ensures.formula-read _ c.in-err-operator.ensures.if-next) }
+pub bracket-returns-in_err-operator : goal.bracket-returns-in_err-operator
+bracket-returns-in_err-operator t c =
+    let p = err_from_is_err_and c.from_residual-in_err-operator.result c.from_residual-in_err-operator.ensures.1 in
+    record { bracket_read = rw (p.1, p.2) (left_refused _ c.args.from _ _ _ _ c.in_ok-left.ensures.formula_read _ c.in_err-operator.ensures.if_next) }
 
 pub bracket-formula-requires-2 : goal.bracket-formula-requires-2
 bracket-formula-requires-2 t c =
-    let r = c.in-ok-left.ensures.formula-read in
+    let r = c.in_ok-left.ensures.formula_read in
     let o = ends_onto r.ends in
-    let s = step_onto _ _ _ _ c.in-ok-operator.ensures.if-next.1 in
+    let s = step_onto _ _ _ _ c.in_ok-operator.ensures.if_next.1 in
     (omega arith, (omega arith, (omega arith, c.requires.2)))
 
-pub bracket-returns-in-err-right : goal.bracket-returns-in-err-right
-bracket-returns-in-err-right t c =
-    let p = err_from_is_err_and c.from-residual-in-err-right.result c.from-residual-in-err-right.ensures.1 in
-    let m = c.in-ok-operator.ensures.if-next in
-    record { bracket-read = rw (p.1, p.2) (right_refused _ c.args.from _ _ _ _ c.in-ok-left.ensures.formula-read c.in-ok-operator.operator c.in-ok-operator.after m.0 m.1 _ c.in-err-right.ensures.formula-read) }
+pub bracket-returns-in_err-right : goal.bracket-returns-in_err-right
+bracket-returns-in_err-right t c =
+    let p = err_from_is_err_and c.from_residual-in_err-right.result c.from_residual-in_err-right.ensures.1 in
+    let m = c.in_ok-operator.ensures.if_next in
+    record { bracket_read = rw (p.1, p.2) (right_refused _ c.args.from _ _ _ _ c.in_ok-left.ensures.formula_read c.in_ok-operator.operator c.in_ok-operator.after m.0 m.1 _ c.in_err-right.ensures.formula_read) }
 
 pub bracket-closing-requires : goal.bracket-closing-requires
 bracket-closing-requires t c =
-    let r = c.in-ok-left.ensures.formula-read in
+    let r = c.in_ok-left.ensures.formula_read in
     let o = ends_onto r.ends in
-    let s = step_onto _ _ _ _ c.in-ok-operator.ensures.if-next.1 in
-    let o2 = ends_onto c.in-ok-right.ensures.formula-read.ends in
+    let s = step_onto _ _ _ _ c.in_ok-operator.ensures.if_next.1 in
+    let o2 = ends_onto c.in_ok-right.ensures.formula_read.ends in
     omega arith
 
-pub bracket-returns-in-err-last : goal.bracket-returns-in-err-last
-bracket-returns-in-err-last t c =
-    let p = err_from_is_err_and c.from-residual-in-err-last.result c.from-residual-in-err-last.ensures.1 in
-    let m = c.in-ok-operator.ensures.if-next in
-    record { bracket-read = rw (p.1, p.2) (close_refused _ c.args.from _ _ _ _ c.in-ok-left.ensures.formula-read c.in-ok-operator.operator c.in-ok-operator.after m.0 m.1 _ _ c.in-ok-right.ensures.formula-read _ c.in-err-last.ensures.if-next) }
+pub bracket-returns-in_err-last : goal.bracket-returns-in_err-last
+bracket-returns-in_err-last t c =
+    let p = err_from_is_err_and c.from_residual-in_err-last.result c.from_residual-in_err-last.ensures.1 in
+    let m = c.in_ok-operator.ensures.if_next in
+    record { bracket_read = rw (p.1, p.2) (close_refused _ c.args.from _ _ _ _ c.in_ok-left.ensures.formula_read c.in_ok-operator.operator c.in_ok-operator.after m.0 m.1 _ _ c.in_ok-right.ensures.formula_read _ c.in_err-last.ensures.if_next) }
 
-pub bracket-overflow-sub-left : goal.bracket-overflow-sub-left
-bracket-overflow-sub-left t c =
-    let r = c.in-ok-left.ensures.formula-read in
+pub bracket-overflow_sub-left : goal.bracket-overflow_sub-left
+bracket-overflow_sub-left t c =
+    let r = c.in_ok-left.ensures.formula_read in
     omega (arith, size_pos r.tree, r.filled, r.sized)
 
-pub bracket-overflow-sub-right : goal.bracket-overflow-sub-right
-bracket-overflow-sub-right t c =
-    let r = c.in-ok-right.ensures.formula-read in
+pub bracket-overflow_sub-right : goal.bracket-overflow_sub-right
+bracket-overflow_sub-right t c =
+    let r = c.in_ok-right.ensures.formula_read in
     omega (arith, size_pos r.tree, r.filled, r.sized)
 
 pub bracket-returns : goal.bracket-returns
 bracket-returns t c =
-    let m = c.in-ok-operator.ensures.if-next in
-    record { bracket-read = pair_formed _ c.args.from _ _ _ _ c.in-ok-left.ensures.formula-read c.in-ok-operator.operator c.in-ok-operator.after m.0 m.1 _ _ c.in-ok-right.ensures.formula-read c.in-ok-last.after _ _ _ c.in-ok-last.ensures.if-next c.lay.ensures.laid-if-room }
+    let m = c.in_ok-operator.ensures.if_next in
+    record { bracket_read = pair_formed _ c.args.from _ _ _ _ c.in_ok-left.ensures.formula_read c.in_ok-operator.operator c.in_ok-operator.after m.0 m.1 _ _ c.in_ok-right.ensures.formula_read c.in_ok-last.after _ _ _ c.in_ok-last.ensures.if_next c.lay.ensures.laid_if_room }

@@ -6,13 +6,13 @@ use Rattle.text.specs.Readers.{Joins, no_token}
 use Rattle.text.proofs.Formulas.{not_wanted}
 use Rattle.text.proofs.formula.operator.Goals as goal
 
-pub returns-in-err-step : goal.returns-in-err-step
-returns-in-err-step c =
-    let p = err_from_is_err_and c.from-residual.result c.from-residual.ensures.1 in
-    record { if-next = rw (p.1, p.2) (no_token _ refl c.in-err-step.ensures.next-item) }
+pub returns-in_err-step : goal.returns-in_err-step
+returns-in_err-step c =
+    let p = err_from_is_err_and c.from_residual.result c.from_residual.ensures.1 in
+    record { if_next = rw (p.1, p.2) (no_token _ refl c.in_err-step.ensures.next_item) }
 
-apart : (c : goal.After-refuse) (t : Token) → c.in-ok-step.step.token ≡ Some t → Joins (shown t) → ⊥
+apart : (c : goal.After-refuse) (t : Token) → c.in_ok-step.step.token ≡ Some t → Joins (shown t) → ⊥
 apart c t e w = grind arith
 
-pub returns-in-default : goal.returns-in-default
-returns-in-default c = record { if-next = rw c.refuse.ensures.at_place (not_wanted Joins c.args.from _ _ c.in-ok-step.step.after c.in-ok-step.ensures.next-item (apart c)) }
+pub returns-in_default : goal.returns-in_default
+returns-in_default c = record { if_next = rw c.refuse.ensures.at_place (not_wanted Joins c.args.from _ _ c.in_ok-step.step.after c.in_ok-step.ensures.next_item (apart c)) }

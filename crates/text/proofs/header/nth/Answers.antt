@@ -6,11 +6,11 @@ use Rattle.text.proofs.header.nth.Goals as goal
 inside : (c : goal.After-result·1) → (get_or c.args.header.names.now c.args.i (record { start = 0; len = 0 })).start + (get_or c.args.header.names.now c.args.i (record { start = 0; len = 0 })).len ≤ length c.args.header.text.now
 inside c = every_at (λ n. n.start + n.len ≤ length c.args.header.text.now) c.args.header.names.now c.args.i (record { start = 0; len = 0 }) c.requires.0 c.requires.1
 
-pub overflow-add-result : goal.overflow-add-result
-overflow-add-result c = omega (arith, inside c, c.ranges.header)
+pub overflow_add-result : goal.overflow_add-result
+overflow_add-result c = omega (arith, inside c, c.ranges.header)
 
-pub slice-bounds-result-end : goal.slice-bounds-result-end
-slice-bounds-result-end c = omega (arith, inside c)
+pub slice_bounds-result-end : goal.slice_bounds-result-end
+slice_bounds-result-end c = omega (arith, inside c)
 
 back : (a b : ℕ) → a + b - a ≡ b
 back a b = omega arith
@@ -18,4 +18,4 @@ back a b = omega arith
 pub returns : goal.returns
 returns c =
     let n = get_or c.args.header.names.now c.args.i (record { start = 0; len = 0 }) in
-    record { bytes-of-name = ap (λ k. take k (drop n.start c.args.header.text.now)) (back n.start n.len) ∙ sym (names_at c.args.header.text.now c.args.header.names.now c.args.i (record { start = 0; len = 0 }) c.requires.1) }
+    record { bytes_of_name = ap (λ k. take k (drop n.start c.args.header.text.now)) (back n.start n.len) ∙ sym (names_at c.args.header.text.now c.args.header.names.now c.args.i (record { start = 0; len = 0 }) c.requires.1) }

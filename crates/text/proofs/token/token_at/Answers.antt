@@ -52,7 +52,7 @@ pub returns-in-33 : goal.returns-in-33
 returns-in-33 c = search (rules, front1)
 
 pub returns-in-97-to-122 : goal.returns-in-97-to-122
-returns-in-97-to-122 c = record { token-that-begins = name_begins c.name-len.result _ _ _ (grind arith) (grind arith) (grind arith) c.name-len.ensures.within c.name-len.ensures.all-of-names c.name-len.ensures.then-none c.split-at.ensures.front c.split-at.ensures.back }
+returns-in-97-to-122 c = record { token_that_begins = name_begins c.name_len.result _ _ _ (grind arith) (grind arith) (grind arith) c.name_len.ensures.within c.name_len.ensures.all_of_names c.name_len.ensures.then_none c.split_at.ensures.front c.split_at.ensures.back }
 
 pub returns-in-87 : goal.returns-in-87
 returns-in-87 c = search (rules, front1)
