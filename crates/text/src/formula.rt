@@ -84,8 +84,8 @@ pub(crate) fn formula<'a>(
     strip: &mut [Row],
     filled: usize,
 ) -> Result<Done<'a>, Fault>
-    requires rest_bound { from.at + length from.rest.now < 2 ^ 64 }
-    requires filled_in_bounds { filled ≤ length strip.old }
+    requires place_fits { from.at + length from.rest.now < 2 ^ 64 }
+    requires filled_fits { filled ≤ length strip.old }
     requires inside { Inside header }
     ensures formula_read { FormulaTold (names_of header.entry) [] from.entry strip.old filled strip.new result }
 {
@@ -128,8 +128,8 @@ fn bracket<'a>(
     strip: &mut [Row],
     filled: usize,
 ) -> Result<Done<'a>, Fault>
-    requires rest_bound { from.at + length from.rest.now < 2 ^ 64 }
-    requires filled_in_bounds { filled ≤ length strip.old }
+    requires place_fits { from.at + length from.rest.now < 2 ^ 64 }
+    requires filled_fits { filled ≤ length strip.old }
     requires inside { Inside header }
     ensures bracket_read { FormulaTold (names_of header.entry) (opens ∷ []) from.entry strip.old filled strip.new result }
 {

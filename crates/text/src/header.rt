@@ -22,7 +22,7 @@ pub(crate) struct Header<'h> {
 /// The name of signal i.
 fn nth<'h>(header: Header<'h>, i: usize) -> &'h [u8]
     requires inside { Inside header }
-    requires i_in_bounds { i < length header.names.now }
+    requires declared { i < length header.names.now }
     ensures bytes_of_name { result.now ≡ slice_index_or (names_of header.entry) i [] }
 {
     let Span { start, len } = header.names[i];

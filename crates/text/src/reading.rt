@@ -29,8 +29,8 @@ fn end(from: Cursor) -> Result<(), Fault>
 
 /// Reads a text into strips that are just long enough. A refused one may leave them half filled.
 fn parse(text: &[u8], rows: &mut [Row], names: &mut [Span]) -> Result<Counts, Fault>
-    requires rows_len { length rows.old ≡ 64 }
-    requires names_len { length names.old ≡ 16 }
+    requires sixty_four_rows { length rows.old ≡ 64 }
+    requires sixteen_names { length names.old ≡ 16 }
     ensures text_read { TextTold text.now rows.old rows.new names.old names.new result }
 {
     let (count, from) = head(text, names)?;

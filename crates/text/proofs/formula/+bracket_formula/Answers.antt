@@ -24,49 +24,49 @@ formula-returns-in-Some-Constant t c =
     let s = step_at c.args.from _ (Constant c.in-Some-Constant.value) _ c.in_ok-step.step.after c.in_ok-step.ensures.next_item e in
     record { formula_read = lay_all _ [] c.args.from _ _ _ _ _ (truth c.in-Some-Constant.value) (constant c.in-Some-Constant.value ∷ []) [] (row.Constant c.in-Some-Constant.value) _ _ _ refl (ends_one s) (tt, tt) refl refl refl (omega arith) (omega arith) c.lay.ensures.laid_if_room }
 
-pub formula-returns-in_ok-signal : goal.formula-returns-in_ok-signal
-formula-returns-in_ok-signal t c =
+pub formula-returns-in_ok-signal-in-Some-Name : goal.formula-returns-in_ok-signal-in-Some-Name
+formula-returns-in_ok-signal-in-Some-Name t c =
     let e : c.in_ok-step.step.token ≡ Some (Name c.in-Some-Name.name) = grind arith in
     let s = step_at c.args.from _ (Name c.in-Some-Name.name) _ c.in_ok-step.step.after c.in_ok-step.ensures.next_item e in
-    let n = c.in_ok-signal.ensures.if_declared in
-    record { formula_read = lay_all _ [] c.args.from _ _ _ _ _ (name c.in-Some-Name.name.now) (named c.in-Some-Name.name.now ∷ []) [] (row.Signal c.in_ok-signal.signal) _ _ _ refl (ends_one s) ((n.0, (c.in_ok-signal.signal, n.1)), tt) (c.in_ok-signal.signal, n.1, refl) refl refl (omega arith) (omega arith) c.lay-in-Some-Name.ensures.laid_if_room }
+    let n = c.in_ok-signal-in-Some-Name.ensures.if_declared in
+    record { formula_read = lay_all _ [] c.args.from _ _ _ _ _ (name c.in-Some-Name.name.now) (named c.in-Some-Name.name.now ∷ []) [] (row.Signal c.in_ok-signal-in-Some-Name.signal) _ _ _ refl (ends_one s) ((n.0, (c.in_ok-signal-in-Some-Name.signal, n.1)), tt) (c.in_ok-signal-in-Some-Name.signal, n.1, refl) refl refl (omega arith) (omega arith) c.lay-in-Some-Name.ensures.laid_if_room }
 
-pub formula-returns-in_err-signal : goal.formula-returns-in_err-signal
-formula-returns-in_err-signal t c =
+pub formula-returns-in_err-signal-in-Some-Name : goal.formula-returns-in_err-signal-in-Some-Name
+formula-returns-in_err-signal-in-Some-Name t c =
     let e : c.in_ok-step.step.token ≡ Some (Name c.in-Some-Name.name) = grind arith in
     let s = step_at c.args.from _ (Name c.in-Some-Name.name) _ c.in_ok-step.step.after c.in_ok-step.ensures.next_item e in
-    let p = err_from_is_err_and c.from_residual-in_err-signal.result c.from_residual-in_err-signal.ensures.1 in
-    record { formula_read = rw (p.1, p.2) (name_refused _ _ _ _ _ _ _ _ (omega arith) s c.in_err-signal.ensures.if_declared) }
+    let p = err_from_is_err_and c.from_residual-in_err-signal-in-Some-Name.result c.from_residual-in_err-signal-in-Some-Name.ensures.1 in
+    record { formula_read = rw (p.1, p.2) (name_refused _ _ _ _ _ _ _ _ (omega arith) s c.in_err-signal-in-Some-Name.ensures.if_declared) }
 
 pub formula-formula-requires : goal.formula-formula-requires
 formula-formula-requires t c =
     let e : c.in_ok-step.step.token ≡ Some (Unary c.in-Some-Unary.operator) = grind arith in
     let s = step_onto _ _ _ _ (step_at c.args.from _ _ _ c.in_ok-step.step.after c.in_ok-step.ensures.next_item e) in
-    (omega arith, (omega arith, (omega arith, c.requires.2)))
+    (omega arith, (omega arith, (omega arith, c.requires.inside)))
 
-pub formula-returns-in_err-inner : goal.formula-returns-in_err-inner
-formula-returns-in_err-inner t c =
+pub formula-returns-in_err-inner-in-Some-Unary : goal.formula-returns-in_err-inner-in-Some-Unary
+formula-returns-in_err-inner-in-Some-Unary t c =
     let e : c.in_ok-step.step.token ≡ Some (Unary c.in-Some-Unary.operator) = grind arith in
     let s = step_at c.args.from _ (Unary c.in-Some-Unary.operator) _ c.in_ok-step.step.after c.in_ok-step.ensures.next_item e in
-    let p = err_from_is_err_and c.from_residual-in_err-inner.result c.from_residual-in_err-inner.ensures.1 in
-    record { formula_read = rw (p.1, p.2) (under_refused c.in-Some-Unary.operator s c.in_err-inner.ensures.formula_read) }
+    let p = err_from_is_err_and c.from_residual-in_err-inner-in-Some-Unary.result c.from_residual-in_err-inner-in-Some-Unary.ensures.1 in
+    record { formula_read = rw (p.1, p.2) (under_refused c.in-Some-Unary.operator s c.in_err-inner-in-Some-Unary.ensures.formula_read) }
 
 pub formula-overflow_sub-inner : goal.formula-overflow_sub-inner
 formula-overflow_sub-inner t c =
-    let r = c.in_ok-inner.ensures.formula_read in
+    let r = c.in_ok-inner-in-Some-Unary.ensures.formula_read in
     omega (arith, size_pos r.tree, r.filled, r.sized)
 
 pub formula-bracket-requires : goal.formula-bracket-requires
 formula-bracket-requires t c =
     let e : c.in_ok-step.step.token ≡ Some Open = grind arith in
     let s = step_onto _ _ _ _ (step_at c.args.from _ _ _ c.in_ok-step.step.after c.in_ok-step.ensures.next_item e) in
-    (omega arith, (omega arith, (omega arith, c.requires.2)))
+    (omega arith, (omega arith, (omega arith, c.requires.inside)))
 
-pub formula-returns-in_ok-inner : goal.formula-returns-in_ok-inner
-formula-returns-in_ok-inner t c =
+pub formula-returns-in_ok-inner-in-Some-Unary : goal.formula-returns-in_ok-inner-in-Some-Unary
+formula-returns-in_ok-inner-in-Some-Unary t c =
     let e : c.in_ok-step.step.token ≡ Some (Unary c.in-Some-Unary.operator) = grind arith in
     let s = step_at c.args.from _ (Unary c.in-Some-Unary.operator) _ c.in_ok-step.step.after c.in_ok-step.ensures.next_item e in
-    record { formula_read = under_formed _ c.args.from c.in_ok-step.step.after _ _ _ _ _ _ _ _ s c.in_ok-inner.ensures.formula_read c.lay-in-Some-Unary.ensures.laid_if_room }
+    record { formula_read = under_formed _ c.args.from c.in_ok-step.step.after _ _ _ _ _ _ _ _ s c.in_ok-inner-in-Some-Unary.ensures.formula_read c.lay-in-Some-Unary.ensures.laid_if_room }
 
 pub formula-returns-in-Some-Open : goal.formula-returns-in-Some-Open
 formula-returns-in-Some-Open t c =
@@ -101,7 +101,7 @@ bracket-formula-requires-2 t c =
     let r = c.in_ok-left.ensures.formula_read in
     let o = ends_onto r.ends in
     let s = step_onto _ _ _ _ c.in_ok-operator.ensures.if_next.1 in
-    (omega arith, (omega arith, (omega arith, c.requires.2)))
+    (omega arith, (omega arith, (omega arith, c.requires.inside)))
 
 pub bracket-returns-in_err-right : goal.bracket-returns-in_err-right
 bracket-returns-in_err-right t c =

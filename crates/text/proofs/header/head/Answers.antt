@@ -18,14 +18,14 @@ next-requires c = let u = lex_upto _ _ _ c.loop-step.invariant.read in omega ari
 pub admit-requires : goal.admit-requires
 admit-requires c = subst (AllByRecursion (λ x. x.start + x.len ≤ length c.args.text.now)) (sym (part_all c.loop-step.count c.loop-step.names)) c.loop-step.invariant.inside
 
-pub returns-in_err-admit : goal.returns-in_err-admit
-returns-in_err-admit c =
+pub returns-in_err-admit-in-Some-Name : goal.returns-in_err-admit-in-Some-Name
+returns-in_err-admit-in-Some-Name c =
     let e : c.in_ok-step.step.token ≡ Some (Name c.in-Some-Name.name) = grind arith in
     let s = step_at c.loop-step.from _ (Name c.in-Some-Name.name) _ c.in_ok-step.step.after c.in_ok-step.ensures.next_item e in
     let f = c.loop-step.invariant in
     let same = ap (names_in c.args.text.now) (part_all c.loop-step.count c.loop-step.names) ∙ f.names_are in
-    let p = err_from_is_err_and c.from_residual-in_err-admit.result c.from_residual-in_err-admit.ensures.1 in
-    record { header_read = rw (p.1, p.2) (name_refused _ _ _ _ _ f _ _ _ _ s (subst (λ hs. Admitted hs c.in-Some-Name.name.now c.in_ok-step.step.place (Err c.in_err-admit.field-0.0)) same c.in_err-admit.ensures.admitted)) }
+    let p = err_from_is_err_and c.from_residual-in_err-admit-in-Some-Name.result c.from_residual-in_err-admit-in-Some-Name.ensures.1 in
+    record { header_read = rw (p.1, p.2) (name_refused _ _ _ _ _ f _ _ _ _ s (subst (λ hs. Admitted hs c.in-Some-Name.name.now c.in_ok-step.step.place (Err c.in_err-admit-in-Some-Name.field-0.0)) same c.in_err-admit-in-Some-Name.ensures.admitted)) }
 
 pub loop-step-smaller : goal.loop-step-smaller
 loop-step-smaller c =
@@ -39,7 +39,7 @@ loop-step-preserved c =
     let s = step_at c.loop-step.from _ (Name c.in-Some-Name.name) _ c.in_ok-step.step.after c.in_ok-step.ensures.next_item e in
     let f = c.loop-step.invariant in
     let same = ap (names_in c.args.text.now) (part_all c.loop-step.count c.loop-step.names) ∙ f.names_are in
-    let a = subst (λ hs. Admitted hs c.in-Some-Name.name.now c.in_ok-step.step.place (Ok tt)) same c.in_ok-admit.ensures.admitted in
+    let a = subst (λ hs. Admitted hs c.in-Some-Name.name.now c.in_ok-step.step.place (Ok tt)) same c.in_ok-admit-in-Some-Name.ensures.admitted in
     one_more _ _ _ _ _ _ _ _ f s a.0 a.1 a.2
 
 pub returns-in_err-step : goal.returns-in_err-step
