@@ -275,9 +275,9 @@ mod tests {
         assert_eq!(rt; answer(&long), (2, 0, 0));
         assert_eq!(rt; answer(&long[1..]), (3, 0, 0));
         match read(&long, &mut rows[0..63], &mut names) {
-            Ok(_) => Err(Fail::new("read into 63 places")),
-            Err(fault) => check_eq((fault.refusal.code(), fault.place), (1, 0)),
-        }?;
+            Ok(_) => return Err(Fail::new("read into 63 places")),
+            Err(fault) => assert_eq!(rt; (fault.refusal.code(), fault.place), (1, 0)),
+        }
         assert_eq!(rt;
             rows[62],
             Row::Constant(false),
