@@ -1,5 +1,5 @@
 -- The example that a case of the code shows. Assumes nothing.
-use Rattle.std.specs.Prelude.{ℕ, List, [], map, slice_index_or}
+use Rattle.std.specs.Prelude.{ℕ, [], map, slice_index_or}
 use Rattle.scale.specs.TwoWay.{held}
 use Rattle.cases.specs.declared.case.Case.{Case}
 use Rattle.cases.specs.declared.case.Charge.{Charge}

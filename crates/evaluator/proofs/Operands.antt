@@ -1,5 +1,5 @@
 -- A row's value by those of its operands. Assumes nothing.
-use Rattle.std.proofs.Common.{◌≡◌, ℕ, ◌-◌, ◌<◌, Bool, false, List, [], ◌∷◌, length, get_or, sym, ap, ◌∙◌}
+use Rattle.std.proofs.Common.{◌≡◌, ℕ, ◌-◌, ◌<◌, Bool, false, List, [], length, get_or, sym, ap, ◌∙◌}
 use Rattle.scale.specs.Algebra.{Algebra}
 use Rattle.rule.specs.declared.operator.UnaryOperator.{UnaryOperator}
 use Rattle.rule.specs.declared.operator.BinaryOperator.{BinaryOperator}

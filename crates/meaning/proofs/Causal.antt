@@ -1,5 +1,5 @@
 -- A formula's value at a sample rests on the samples up to it. Assumes nothing.
-use Rattle.std.proofs.Common.{◌≡◌, ℕ, zero, suc, ◌+◌, ◌<◌, ◌≤◌, Bool, true, false, cond, ltb, List, [], ◌∷◌, ◌++◌, length, get_or, filter, sym, refl, ap, ◌∙◌, ap₂, arith}
+use Rattle.std.proofs.Common.{◌≡◌, ℕ, zero, suc, ◌<◌, ◌≤◌, Bool, true, false, cond, ltb, List, [], ◌∷◌, ◌++◌, length, get_or, filter, refl, ap, ap₂, arith}
 use Rattle.std.proofs.lemmas.List.{get_or_append_left}
 use Rattle.scale.specs.Algebra.{Algebra}
 use Rattle.meaning.specs.Meaning.{Formula, constant, signal, unary, binary, up_to, after, join_of, meet_of, unary_value, binary_value, value, reading}

@@ -1,12 +1,12 @@
 -- The value of a remembering formula from the sample before. Assumes nothing.
-use Rattle.std.proofs.Common.{◌≡◌, ℕ, zero, suc, ◌<◌, ◌≤◌, Bool, true, false, cond, List, [], ◌∷◌, sym, refl, ap, ◌∙◌, ap₂, arith}
+use Rattle.std.proofs.Common.{◌≡◌, ℕ, zero, suc, ◌<◌, ◌≤◌, [], ◌∷◌, sym, refl, ap, ◌∙◌, ap₂, arith}
 use Rattle.std.proofs.lemmas.Bool.{lt-ltb, le-ltb}
 use Rattle.scale.specs.Algebra.{Algebra, Laws}
 use Rattle.meaning.specs.Meaning.{up_to, after, join_of, meet_of, unary_value, binary_value, value}
 use Rattle.meaning.specs.Laws.{Recurrences}
-use Rattle.rule.specs.declared.operator.UnaryOperator.TheVariants.{Not, Yesterday, WeakYesterday, Once, Historically}
-use Rattle.rule.specs.declared.operator.BinaryOperator.TheVariants.{And, Or, Implies, Iff, Xor, Since, WeakSince}
-use Rattle.scale.proofs.Order.{join_no, meet_yes, meet_no}
+use Rattle.rule.specs.declared.operator.UnaryOperator.TheVariants.{Once, Historically}
+use Rattle.rule.specs.declared.operator.BinaryOperator.TheVariants.{Since, WeakSince}
+use Rattle.scale.proofs.Order.{join_no, meet_yes}
 
 after_none : (k t : ℕ) → t ≤ k → after k t ≡ []
 after_none k zero h = rw le-ltb

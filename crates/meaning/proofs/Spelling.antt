@@ -1,11 +1,11 @@
 -- Each row's formula by those of its operands. Assumes nothing.
-use Rattle.std.proofs.Common.{◌≡◌, ℕ, zero, suc, ◌+◌, ◌<◌, ◌≤◌, true, false, ltb, List, [], ◌∷◌, ◌++◌, length, get_or, sym, refl, ap, ◌∙◌, subst, ap₂, arith, length-append}
+use Rattle.std.proofs.Common.{◌≡◌, ℕ, zero, suc, ◌+◌, ◌<◌, true, false, ltb, List, [], ◌∷◌, ◌++◌, length, get_or, sym, refl, ap, ◌∙◌, subst, ap₂, arith, length-append}
 use Rattle.std.proofs.lemmas.List.{get_or_append_left, get_or_push}
 use Rattle.std.proofs.lemmas.Bool.{ltb-true, and_parts}
 use Rattle.rule.specs.declared.row.Row.{Row}
 use Rattle.rule.specs.declared.row.Row.TheVariants.{Constant, Signal, Unary, Binary}
 use Rattle.rule.specs.Fit.{row_fits}
-use Rattle.meaning.specs.Meaning.{Formula, constant, signal, unary, binary}
+use Rattle.meaning.specs.Meaning.{Formula, constant, unary, binary}
 use Rattle.meaning.specs.Spelled.{formula, formulas, spelled}
 
 length_push : {X : Type 0} (xs : List X) (x : X) → length (xs ++ x ∷ []) ≡ suc (length xs)

@@ -1,5 +1,5 @@
 -- A line and its caret, written in five pieces. Assumes nothing.
-use Rattle.std.proofs.Common.{◌≡◌, ℕ, List, [], ◌++◌, map, length, replicate, codes, sym, refl, ap, ◌∙◌}
+use Rattle.std.proofs.Common.{◌≡◌, ℕ, List, [], ◌++◌, map, length, replicate, codes, ap, ◌∙◌}
 use Rattle.report.specs.Excerpts.{visible, until_break, last_line, pointed}
 use Rattle.report.proofs.Writing.{five}
 

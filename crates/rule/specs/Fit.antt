@@ -3,7 +3,6 @@ use Rattle.std.specs.Prelude.{◌≡◌, ℕ, ◌<◌, ◌≤◌, Bool, true, fa
 use Rattle.rule.specs.declared.row.Row.{Row}
 use Rattle.rule.specs.declared.row.Row.TheVariants.{Constant, Signal, Unary, Binary}
 use Rattle.rule.specs.declared.refusal.Fault.{Fault}
-use Rattle.rule.specs.Refusals.{number}
 
 -- row k of a rule: its operands are earlier rows, and its signal is one of the rule's
 abbrev pub row_fits : ℕ → ℕ → Row → Bool

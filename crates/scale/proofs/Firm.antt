@@ -1,10 +1,10 @@
 -- The translations. Assumes nothing.
-use Rattle.std.proofs.Common.{◌≡◌, true, false, sym, refl, ◌∙◌}
+use Rattle.std.proofs.Common.{true, false, sym, refl, ◌∙◌}
 use Rattle.scale.specs.Algebra.{Algebra, Laws, Translation}
 use Rattle.scale.specs.TwoWay.{two_way}
 use Rattle.scale.specs.Lanes.{Lane, lanes}
 use Rattle.scale.specs.Translations.{firm, lane}
-use Rattle.scale.proofs.Order.{join_yes, meet_yes, meet_no, opposite_no, opposite_yes}
+use Rattle.scale.proofs.Order.{join_yes, meet_no, opposite_no, opposite_yes}
 
 -- no and yes keep their sense on every scale
 pub firm_keeps : {V : Type 0} {A : Algebra V} → Laws A → Translation two_way A (firm A)

@@ -1,5 +1,5 @@
 -- What the laws of a scale give. Assumes nothing.
-use Rattle.std.proofs.Common.{◌≡◌, sym, refl, ap, ◌∙◌}
+use Rattle.std.proofs.Common.{◌≡◌, sym, ap, ◌∙◌}
 use Rattle.scale.specs.Algebra.{Algebra, Laws}
 
 module _ {V : Type 0} {A : Algebra V} (L : Laws A) where

@@ -1,6 +1,6 @@
 -- Margins: whole numbers from -30,000 (no) to 30,000 (yes). Assumes nothing.
 use Rattle.std.proofs.Common.{arith}
-use Rattle.std.specs.Prelude.{ℤ, pos, negsuc, neg_ℤ, ◌≤ℤ◌}
+use Rattle.std.specs.Prelude.{pos, negsuc, neg_ℤ}
 use Rattle.std.specs.Int.{int_max, int_min}
 use Rattle.std.proofs.lemmas.Int.{ints, clamps}
 use Rattle.scale.specs.Algebra.{Algebra}

@@ -1,5 +1,5 @@
 -- What the readers answer of a whole text is what is due for it. Assumes nothing.
-use Rattle.std.proofs.Common.{◌≡◌, ℕ, zero, suc, ◌+◌, ◌-◌, ◌<◌, ◌≤◌, true, ◌⊎◌, List, [], ◌∷◌, ◌++◌, length, take, drop, set, Err, sym, refl, ap, ◌∙◌, subst, inl, inr, append_assoc, append-nil, arith, length-set}
+use Rattle.std.proofs.Common.{◌≡◌, ℕ, suc, ◌+◌, ◌<◌, ◌≤◌, true, List, [], ◌∷◌, ◌++◌, length, take, drop, set, Err, sym, refl, ap, ◌∙◌, subst, inl, inr, append_assoc, append-nil, arith, length-set}
 use Rattle.std.specs.List.{AllByRecursion}
 use Rattle.std.proofs.lemmas.List.{drop-set-lt, take_more_set}
 use Rattle.rule.specs.declared.refusal.Fault.{Fault}
@@ -10,16 +10,16 @@ use Rattle.rule.specs.declared.row.Row.{Row}
 use Rattle.text.specs.declared.token.Cursor.{Cursor}
 use Rattle.text.specs.declared.span.Span.{Span}
 use Rattle.text.specs.declared.formula.Done.{Done}
-use Rattle.text.specs.Tokens.{Tok, named, colon, constant, Pos, Next, Ended, Stuck, Lex, Item, token, nothing, finish, At, Stands}
+use Rattle.text.specs.Tokens.{Tok, named, colon, constant, Pos, Next, Ended, Stuck, Lex, Item, token, nothing, finish, At}
 use Rattle.text.specs.Scanning.{pos_of}
 use Rattle.text.specs.Grammar.{Tree, truth, Spells, names, Text, Completes, Declared, Rows}
 use Rattle.text.specs.Texts as texts
 use Rattle.text.specs.Texts.{Misplaced, ManyRows, Wrong, Refused, Fine}
-use Rattle.text.specs.Begun.{spell, size, Part, spell_part, ended, Begun, part, whole, spell_begun, ended_in, Alive, Dead, put}
+use Rattle.text.specs.Begun.{spell, Part, spell_part, Begun, part, whole, spell_begun, ended_in, Alive, Dead, put}
 use Rattle.text.specs.Faults.{fault}
 use Rattle.text.specs.Readers.{Good, Missing, no_token, early_end, unwanted, Why, missing, long_name, undeclared, many_rows, Broken, Formed, Admitted, Follows, begin, HeadWhy, cut_off, unfit_name, HeadBroken, HeadRead, EndTold, Told, TextRead}
 use Rattle.text.proofs.OneReading.{lex_append}
-use Rattle.text.proofs.Spelling.{one_zero, head_of, tail_of, same, names_same, no_colon, names_alone, complete, begun_alive, unfinished}
+use Rattle.text.proofs.Spelling.{one_zero, head_of, tail_of, same, names_same, no_colon, names_alone, begun_alive, unfinished}
 use Rattle.text.proofs.Counting.{spells_spell, spell_of, rows_ended, rows_ended_before, ended_begun}
 use Rattle.text.proofs.OneOutcome.{clean_names, clean_body}
 use Rattle.text.proofs.Formulas.{ends_lex, length_put}

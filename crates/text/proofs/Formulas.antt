@@ -1,5 +1,5 @@
 -- What the readers of formulas answer, from what the readers of their parts answer. Assumes nothing.
-use Rattle.std.proofs.Common.{◌≡◌, ℕ, zero, suc, ◌+◌, ◌-◌, ◌<◌, ◌≤◌, ◌⊎◌, List, [], ◌∷◌, ◌++◌, length, set, Some, None, Ok, Err, Option, Result, sym, refl, ap, ◌∙◌, subst, inl, inr, append_assoc, append-nil, arith, length-append, length-set}
+use Rattle.std.proofs.Common.{◌≡◌, ℕ, suc, ◌+◌, ◌-◌, ◌<◌, ◌≤◌, List, [], ◌∷◌, ◌++◌, length, set, Some, None, Ok, Err, Option, Result, sym, refl, ap, ◌∙◌, subst, inl, inr, append_assoc, arith, length-append, length-set}
 use Rattle.std.specs.List.{AllByRecursion}
 use Rattle.rule.specs.declared.operator.UnaryOperator.{UnaryOperator}
 use Rattle.rule.specs.declared.operator.BinaryOperator.{BinaryOperator}
@@ -10,9 +10,9 @@ use Rattle.rule.specs.declared.refusal.Refusal.TheVariants.{OutOfPlace}
 use Rattle.text.specs.declared.token.Token.{Token}
 use Rattle.text.specs.declared.token.Cursor.{Cursor}
 use Rattle.text.specs.declared.formula.Done.{Done}
-use Rattle.text.specs.Tokens.{Tok, named, opens, closes, unary, binary, bytes_of, Pos, Next, Ended, Stuck, Lex}
+use Rattle.text.specs.Tokens.{Tok, named, opens, closes, unary, binary, bytes_of, Pos, Next, Lex}
 use Rattle.text.specs.Scanning.{shown, pos_of, Onward}
-use Rattle.text.specs.Grammar.{Tree, name, under, pair, Declared, Rows}
+use Rattle.text.specs.Grammar.{Tree, name, under, pair, Rows}
 use Rattle.text.specs.Begun.{spell, size, start, left_done, right_done, whole, Alive, Dead, put}
 use Rattle.text.specs.Faults.{fault}
 use Rattle.text.specs.Readers.{Good, Ends, Missing, no_token, early_end, unwanted, Why, missing, long_name, undeclared, many_rows, Broken, Formed, FormulaTold, RowTold, Joins, Shuts, SignalTold}

@@ -1,7 +1,7 @@
 -- The longest front of name bytes is a name. Assumes nothing.
-use Rattle.std.proofs.Common.{◌≡◌, ℕ, zero, suc, ◌+◌, ◌-◌, ◌<◌, ◌≤◌, Bool, true, false, ◌&&◌, ◌||◌, T, leb, List, [], ◌∷◌, ◌++◌, length, get_or, take, drop, sym, refl, ap, ◌∙◌, subst, arith, le→leb}
+use Rattle.std.proofs.Common.{◌≡◌, ℕ, zero, suc, ◌<◌, ◌≤◌, Bool, true, false, ◌&&◌, ◌||◌, T, leb, List, [], ◌∷◌, ◌++◌, length, get_or, take, drop, refl, ap, subst, arith, le→leb}
 use Rattle.std.specs.List.{AllByRecursion}
-use Rattle.text.specs.Tokens.{lower, name_byte, IsName, Stops, Begins, named}
+use Rattle.text.specs.Tokens.{lower, name_byte, Stops, Begins, named}
 
 both : (a b : Bool) → T a → T b → T (a && b)
 both true b x y = y

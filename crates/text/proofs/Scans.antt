@@ -1,5 +1,5 @@
 -- What `next` answers, from what its parts answer. Assumes nothing.
-use Rattle.std.proofs.Common.{◌≡◌, ℕ, zero, suc, ◌+◌, ◌-◌, ◌<◌, ◌≤◌, T, List, [], ◌∷◌, ◌++◌, length, get_or, take, drop, sym, refl, ap, ◌∙◌, subst, arith, length-append, length-drop, length-take-le, take_all}
+use Rattle.std.proofs.Common.{◌≡◌, ℕ, zero, suc, ◌+◌, ◌-◌, ◌<◌, ◌≤◌, T, List, [], ◌∷◌, length, get_or, take, drop, sym, refl, ap, ◌∙◌, subst, arith, length-append, length-drop, length-take-le, take_all}
 use Rattle.std.proofs.lemmas.List.{take_rest}
 use Rattle.text.specs.Tokens.{Tok, bytes_of, blank, Blanks, Solid, Begins, Pos, Next, Ended, Stuck}
 use Rattle.text.proofs.Naming.{cut}

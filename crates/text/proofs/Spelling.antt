@@ -1,6 +1,5 @@
 -- Formulas and their spelling: it is unambiguous, and where a formula is being read only some tokens can follow. Assumes nothing.
-use Rattle.std.proofs.Common.{◌≡◌, ℕ, zero, suc, ◌+◌, ◌-◌, ◌<◌, ◌≤◌, Bool, true, false, ◌⊎◌, List, [], ◌∷◌, ◌++◌, length, sym, refl, ap, ◌∙◌, subst, inl, inr, append_assoc, append-nil, arith}
-use Rattle.std.specs.List.{AllByRecursion}
+use Rattle.std.proofs.Common.{◌≡◌, ℕ, ◌+◌, ◌<◌, ◌≤◌, true, List, [], ◌∷◌, ◌++◌, sym, refl, ap, ◌∙◌, subst, append_assoc, append-nil, arith}
 use Rattle.rule.specs.declared.operator.UnaryOperator.{UnaryOperator}
 use Rattle.rule.specs.declared.operator.BinaryOperator.{BinaryOperator}
 use Rattle.rule.specs.declared.operator.BinaryOperator.TheVariants.{And}

@@ -11,7 +11,7 @@ use Rattle.text.specs.declared.span.Span.{Span}
 use Rattle.text.specs.declared.span.Counts.{Counts}
 use Rattle.text.specs.declared.header.Header.{Header}
 use Rattle.text.specs.declared.formula.Done.{Done}
-use Rattle.text.specs.Tokens.{Tok, named, colon, opens, closes, constant, unary, binary, Pos, Next, Ended, Stuck, Lex, token, Stands}
+use Rattle.text.specs.Tokens.{Tok, named, colon, opens, closes, constant, unary, binary, Pos, Next, Ended, Stuck, Lex}
 use Rattle.text.specs.Scanning.{pos_of}
 use Rattle.text.specs.Grammar.{Tree, names, Declared, Rows}
 use Rattle.text.specs.Begun.{spell, size, Part, spell_part, ended, Begun, spell_begun, ended_in, Alive, Dead, put}

@@ -1,4 +1,4 @@
-use Rattle.std.proofs.Common.{◌≡◌, ◌++◌, map, codes, decimal, ap, ◌∙◌, append_assoc, lit<}
+use Rattle.std.proofs.Common.{◌++◌, map, codes, decimal, ap, ◌∙◌, append_assoc, lit<}
 use Rattle.report.specs.Excerpts.{visible}
 use Rattle.report.specs.Reports.{spanned}
 use Rattle.report.proofs.Writing.{enclosed}

@@ -1,4 +1,4 @@
-use Rattle.std.proofs.Common.{sym, ap, ◌∙◌, arith}
+use Rattle.std.proofs.Common.{arith}
 use Rattle.report.proofs.Breaks.{last_break, last_more, last_all}
 use Rattle.report.proofs.excerpt.last_line.Goals as goal
 use Rattle.report.proofs.excerpt.last_line.Goals.{then-b-eq10, else-b-eq10}

@@ -1,4 +1,3 @@
-use Rattle.std.proofs.Common.{arith, rules}
 use Rattle.report.specs.Excerpts.{visible}
 use Rattle.report.proofs.Writing.{mapped_more, mapped_all}
 use Rattle.report.proofs.excerpt.push_visible.Goals as goal

@@ -1,5 +1,4 @@
-use Rattle.std.proofs.Common.{◌≡◌, ℕ, ◌+◌, ◌-◌, ◌≤◌, length, get_or, take, drop, sym, refl, ap, ◌∙◌, arith}
-use Rattle.text.specs.declared.span.Span.{Span}
+use Rattle.std.proofs.Common.{◌≡◌, ℕ, ◌+◌, ◌-◌, ◌≤◌, length, get_or, take, drop, sym, ap, ◌∙◌, arith}
 use Rattle.text.proofs.Headers.{every_at, names_at}
 use Rattle.text.proofs.header.nth.Goals as goal
 

@@ -1,4 +1,3 @@
-use Rattle.std.proofs.Common.{arith}
 use Rattle.scale.proofs.Bitwise.{lanes_or}
 use Rattle.scale.proofs.lanes.scale.LanesScale.join.Goals as goal
 

@@ -1,4 +1,3 @@
-use Rattle.std.proofs.Common.{arith}
 use Rattle.scale.proofs.Bitwise.{lanes_and}
 use Rattle.scale.proofs.lanes.scale.LanesScale.meet.Goals as goal
 

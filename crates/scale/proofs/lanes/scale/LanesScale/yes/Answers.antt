@@ -1,4 +1,3 @@
-use Rattle.std.proofs.Common.{arith}
 use Rattle.scale.proofs.Bitwise.{lanes_all}
 use Rattle.scale.proofs.lanes.scale.LanesScale.yes.Goals as goal
 
