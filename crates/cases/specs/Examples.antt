@@ -1,6 +1,6 @@
 -- Charges worked through by hand, and what it is that they come out so. Assumes nothing.
 use Rattle.std.specs.Prelude.{◌≡◌, ℕ, zero, suc, ◌/◌, ◌%◌, Bool, true, false, List, [], ◌∷◌, map, ℤ, pos, negsuc, codes, ◌==◌}
-use Rattle.std.specs.List.{AllByRecursion as All}
+use Rattle.std.specs.List.{AllByRecursion}
 use Rattle.scale.specs.TwoWay.{two_way}
 use Rattle.scale.specs.Lights.{lights}
 use Rattle.scale.specs.Lanes.{Lane, lanes, bit}
@@ -68,4 +68,4 @@ examples =
 
 -- every one comes out as expected
 abbrev pub AllHold : Type 0
-AllHold = All Holds examples
+AllHold = AllByRecursion Holds examples
