@@ -35,7 +35,7 @@ fn reading<S: Scale>(readings: &[S], signals: usize, t: usize, n: usize) -> S
 }
 
 /// The join of row a's values at the samples up to t.
-#[cycle(always_always_after_binary_once_since_since_from_unary_value_at)]
+#[cycle(evaluation)]
 fn once<S: Scale>(rule: &Rule, readings: &[S], a: usize, t: usize) -> S
     requires { a < length rule.now.rows.now }
     ensures joined { S.Scale.means result ≡ join_of S.Scale.ops (up_to t) (row_value S.Scale.ops S.Scale.means rule.now readings.now a) }
@@ -50,7 +50,7 @@ fn once<S: Scale>(rule: &Rule, readings: &[S], a: usize, t: usize) -> S
 }
 
 /// The meet of row a's values at the samples up to t.
-#[cycle(always_always_after_binary_once_since_since_from_unary_value_at)]
+#[cycle(evaluation)]
 fn always<S: Scale>(rule: &Rule, readings: &[S], a: usize, t: usize) -> S
     requires { a < length rule.now.rows.now }
     ensures met { S.Scale.means result ≡ always_value S.Scale.ops (row_value S.Scale.ops S.Scale.means rule.now readings.now a) t }
@@ -65,7 +65,7 @@ fn always<S: Scale>(rule: &Rule, readings: &[S], a: usize, t: usize) -> S
 }
 
 /// The meet of row a's values at the samples after k, up to t.
-#[cycle(always_always_after_binary_once_since_since_from_unary_value_at)]
+#[cycle(evaluation)]
 fn always_after<S: Scale>(rule: &Rule, readings: &[S], a: usize, k: usize, t: usize) -> S
     requires { a < length rule.now.rows.now }
     ensures met { S.Scale.means result ≡ meet_of S.Scale.ops (after k t) (row_value S.Scale.ops S.Scale.means rule.now readings.now a) }
@@ -82,18 +82,20 @@ fn always_after<S: Scale>(rule: &Rule, readings: &[S], a: usize, k: usize, t: us
 }
 
 /// Row b at sample k, and row a at each sample after k up to t.
-#[cycle(always_always_after_binary_once_since_since_from_unary_value_at)]
+#[cycle(evaluation)]
 fn since_from<S: Scale>(rule: &Rule, readings: &[S], a: usize, b: usize, k: usize, t: usize) -> S
-    requires { (a < length rule.now.rows.now) × (b < length rule.now.rows.now) }
+    requires left { a < length rule.now.rows.now }
+    requires right { b < length rule.now.rows.now }
     ensures met { S.Scale.means result ≡ S.Scale.ops.meet (row_value S.Scale.ops S.Scale.means rule.now readings.now b k) (meet_of S.Scale.ops (after k t) (row_value S.Scale.ops S.Scale.means rule.now readings.now a)) }
 {
     value_at(rule, readings, b, k).meet(always_after(rule, readings, a, k, t))
 }
 
 /// Row a since row b, at sample t.
-#[cycle(always_always_after_binary_once_since_since_from_unary_value_at)]
+#[cycle(evaluation)]
 fn since<S: Scale>(rule: &Rule, readings: &[S], a: usize, b: usize, t: usize) -> S
-    requires { (a < length rule.now.rows.now) × (b < length rule.now.rows.now) }
+    requires left { a < length rule.now.rows.now }
+    requires right { b < length rule.now.rows.now }
     ensures joined { S.Scale.means result ≡ since_value S.Scale.ops (row_value S.Scale.ops S.Scale.means rule.now readings.now a) (row_value S.Scale.ops S.Scale.means rule.now readings.now b) t }
 {
     let mut all = since_from(rule, readings, a, b, 0, t).join(S::no());
@@ -106,7 +108,7 @@ fn since<S: Scale>(rule: &Rule, readings: &[S], a: usize, b: usize, t: usize) ->
 }
 
 /// The value of row i at sample t.
-#[cycle(always_always_after_binary_once_since_since_from_unary_value_at)]
+#[cycle(evaluation)]
 fn value_at<S: Scale>(rule: &Rule, readings: &[S], i: usize, t: usize) -> S
     requires { i < length rule.now.rows.now }
     ensures of_the_row { S.Scale.means result ≡ row_value S.Scale.ops S.Scale.means rule.now readings.now i t }
@@ -120,7 +122,7 @@ fn value_at<S: Scale>(rule: &Rule, readings: &[S], i: usize, t: usize) -> S
 }
 
 /// The operator over row a, at sample t.
-#[cycle(always_always_after_binary_once_since_since_from_unary_value_at)]
+#[cycle(evaluation)]
 fn unary<S: Scale>(rule: &Rule, readings: &[S], operator: UnaryOperator, a: usize, t: usize) -> S
     requires { a < length rule.now.rows.now }
     ensures by_the_meaning { S.Scale.means result ≡ unary_value S.Scale.ops operator (row_value S.Scale.ops S.Scale.means rule.now readings.now a) t }
@@ -147,7 +149,7 @@ fn unary<S: Scale>(rule: &Rule, readings: &[S], operator: UnaryOperator, a: usiz
 }
 
 /// The operator over rows a and b, at sample t.
-#[cycle(always_always_after_binary_once_since_since_from_unary_value_at)]
+#[cycle(evaluation)]
 fn binary<S: Scale>(
     rule: &Rule,
     readings: &[S],
@@ -156,7 +158,8 @@ fn binary<S: Scale>(
     b: usize,
     t: usize,
 ) -> S
-    requires { (a < length rule.now.rows.now) × (b < length rule.now.rows.now) }
+    requires left { a < length rule.now.rows.now }
+    requires right { b < length rule.now.rows.now }
     ensures by_the_meaning { S.Scale.means result ≡ binary_value S.Scale.ops operator (row_value S.Scale.ops S.Scale.means rule.now readings.now a) (row_value S.Scale.ops S.Scale.means rule.now readings.now b) t }
 {
     let x = value_at(rule, readings, a, t);

@@ -1,4 +1,4 @@
--- The four scales keep the laws. Assumes nothing.
+-- The four scales keep the laws. The proofs stand here, since the scales' implementations name them. Assumes nothing.
 use Rattle.std.specs.Prelude.{◌≡◌, ℕ, ◌<◌, true, false, ℤ, pos, negsuc, neg_ℤ, ◌≤ℤ◌, refl}
 use Rattle.std.proofs.Common.{sym, ap, ◌∙◌, arith}
 use Rattle.std.proofs.Math.Path.{fun_ext}

@@ -1,7 +1,7 @@
 use Rattle.std.proofs.Common.{sym, ◌∙◌, arith}
 use Rattle.evaluator.proofs.Ranges.{join_more, meet_more, meet_after_more, meet_after_same}
 use Rattle.evaluator.proofs.Operands.{constant_row, signal_row, unary_row, binary_row}
-use Rattle.evaluator.proofs.+always_always_after_binary_once_since_since_from_unary_value_at.Goals as goal
+use Rattle.evaluator.proofs.+evaluation.Goals as goal
 
 pub once-loop-k-preserved : goal.once-loop-k-preserved
 once-loop-k-preserved g t c =

@@ -1,7 +1,7 @@
 use Rattle.std.proofs.Common.{◌≡◌, ◌+◌, ◌-◌, ◌*◌, ◌≤◌, max}
 use Rattle.meaning.specs.Meaning.{join_of, meet_of, up_to, after}
 use Rattle.evaluator.specs.Rows.{row_value}
-use Rattle.evaluator.proofs.+always_always_after_binary_once_since_since_from_unary_value_at.Given as goal
+use Rattle.evaluator.proofs.+evaluation.Given as goal
 
 -- an operator stands above its operands' rows, and below its own
 abbrev pub decreases-value_at : goal.decreases-value_at
