@@ -183,7 +183,7 @@ module _ (text : List ℕ) (hs : List (List ℕ)) (fine : Fine hs) (some : 0 < l
   stuck_told e place is s = told is (at_body nothing place 3 s (texts.no_token refl refl) (smallest_by so_far nothing 3 (λ z. omega arith) (λ z. omega arith) (λ x z w. omega arith) (λ x h i z w d. omega arith) (λ x h z w. omega arith) (λ x h b z w d. omega arith) (omega arith)))
 
   end_told : (e : Fault) (place : ℕ) → e ≡ fault OutOfPlace place → Ended stop place → ((gs : List (List ℕ)) (f : Tree) → Text so_far gs f → ⊥) → Told text e
-  end_told e place is h not-text = told is (at_body finish place 4 h (texts.out_of_place refl (completes_so_far, not-text)) (smallest_by so_far finish 4 finish_nothing (λ z. omega arith) (λ x z w. omega arith) (λ x g i z w d. omega arith) (λ x g z w. omega arith) (λ x g b z w d. omega arith) (omega arith)))
+  end_told e place is h not_text = told is (at_body finish place 4 h (texts.out_of_place refl (completes_so_far, not_text)) (smallest_by so_far finish 4 finish_nothing (λ z. omega arith) (λ x z w. omega arith) (λ x g i z w d. omega arith) (λ x g z w. omega arith) (λ x g b z w d. omega arith) (omega arith)))
 
   token_told : (e : Fault) (place : ℕ) (t : Tok) (m : Pos) → e ≡ fault OutOfPlace place → Next stop t place m → (Completes (so_far ++ (t ∷ [])) → ⊥) → Told text e
   token_told e place t m is s hopeless = told is (at_body (token t) place 4 (m, s) (texts.out_of_place refl (completes_so_far, hopeless)) (smallest_by so_far (token t) 4 (no_nothing t) (λ z. omega arith) (λ x z w. omega arith) (λ x g i z w d. omega arith) (λ x g z w. omega arith) (λ x g b z w d. omega arith) (omega arith)))
@@ -193,17 +193,17 @@ module _ (text : List ℕ) (hs : List (List ℕ)) (fine : Fine hs) (some : 0 < l
     not_out_of_place w = absurd (w.1 (subst Completes (sym (one_on t)) (completes_body hs (body ++ (t ∷ [])) some goes_on)))
 
     long_told : (e : Fault) (x : List ℕ) → e ≡ fault LongName place → t ≡ named x → 12 < length x → Told text e
-    long_told e x is name-is lt = told is (at_body (token t) place 5 (m, s) (texts.long_name x refl (ap token name-is) lt) (smallest_by so_far (token t) 5 (no_nothing t) not_out_of_place (λ y z w. omega arith) (λ y g i z w d. omega arith) (λ y g z w. omega arith) (λ y g b z w d. omega arith) (omega arith)))
+    long_told e x is name_is lt = told is (at_body (token t) place 5 (m, s) (texts.long_name x refl (ap token name_is) lt) (smallest_by so_far (token t) 5 (no_nothing t) not_out_of_place (λ y z w. omega arith) (λ y g i z w d. omega arith) (λ y g z w. omega arith) (λ y g b z w d. omega arith) (omega arith)))
 
     undeclared_told : (e : Fault) (x : List ℕ) → e ≡ fault UndeclaredName place → t ≡ named x → length x ≤ 12 → ((i : ℕ) → Declared hs x i → ⊥) → Told text e
     unfolding so_far
-    undeclared_told e x is name-is le none = told is (at_body (token t) place 8 (m, s) (texts.undeclared_name x hs body refl (ap token name-is) refl none) (smallest_by so_far (token t) 8 (no_nothing t) not_out_of_place (λ y z w. let k = ap length (named_of x y (ap token (sym name-is) ∙ z)) in absurd (omega arith)) (λ y g i z w d. not_in_header g w) (λ y g z w. not_in_header g w) (λ y g b z w d. omega arith) (omega arith)))
+    undeclared_told e x is name_is le none = told is (at_body (token t) place 8 (m, s) (texts.undeclared_name x hs body refl (ap token name_is) refl none) (smallest_by so_far (token t) 8 (no_nothing t) not_out_of_place (λ y z w. let k = ap length (named_of x y (ap token (sym name_is) ∙ z)) in absurd (omega arith)) (λ y g i z w d. not_in_header g w) (λ y g z w. not_in_header g w) (λ y g b z w d. omega arith) (omega arith)))
 
     rows_told : (e : Fault) (b : Begun) → e ≡ fault UnfitRows place → Good hs t → body ++ (t ∷ []) ≡ spell_begun b → 64 < ended_in b → Told text e
     unfolding so_far
     rows_told e b is fit spelled over =
         let counted : rows_ended (body ++ (t ∷ [])) ≡ ended_in b = ap rows_ended spelled ∙ ended_begun b in
-        let ended-in = rows_ended_before goes_on.1 (body ++ (t ∷ [])) goes_on.0 goes_on.2 in
+        let all_ended_before = rows_ended_before goes_on.1 (body ++ (t ∷ [])) goes_on.0 goes_on.2 in
         told is (at_body (token t) place 9 (m, s)
         (texts.many_rows t refl refl (record { header = hs; body = body ++ (t ∷ []); split = one_on t; more = goes_on.0; tree = goes_on.1; spells = subst (λ l. Spells l goes_on.1) (sym goes_on.2) (spells_spell goes_on.1); over = omega arith }))
         (smallest_by so_far (token t) 9 (no_nothing t) not_out_of_place
@@ -215,12 +215,12 @@ module _ (text : List ℕ) (hs : List (List ℕ)) (fine : Fine hs) (some : 0 < l
 
   formula_why : (e : Fault) (p : Part) → body ≡ spell_part p → Why hs 64 0 body stop e → Told text e
   unfolding so_far
-  formula_why e p is-part (missing (no_token place is s)) = stuck_told e place is s
-  formula_why e p is-part (missing (early_end place is h)) = end_told e place is h (λ gs f t. unfinished p f (sym is-part ∙ (names_same hs gs body (spell f) (text_spell t)).1))
-  formula_why e p is-part (missing (unwanted place t m is s dead)) = token_told e place t m is s (λ c. hopeless_body hs (body ++ (t ∷ [])) dead (subst Completes (one_on t) c))
-  formula_why e p is-part (long_name place x m is s goes_on lt) = long_told (named x) m place s goes_on e x is refl lt
-  formula_why e p is-part (undeclared place x m is s goes_on le none) = undeclared_told (named x) m place s goes_on e x is refl le none
-  formula_why e p is-part (many_rows place t m b is s fit spelled over) = rows_told t m place s (subst Alive (sym spelled) (begun_alive b)) e b is fit spelled (omega arith)
+  formula_why e p is_part (missing (no_token place is s)) = stuck_told e place is s
+  formula_why e p is_part (missing (early_end place is h)) = end_told e place is h (λ gs f t. unfinished p f (sym is_part ∙ (names_same hs gs body (spell f) (text_spell t)).1))
+  formula_why e p is_part (missing (unwanted place t m is s dead)) = token_told e place t m is s (λ c. hopeless_body hs (body ++ (t ∷ [])) dead (subst Completes (one_on t) c))
+  formula_why e p is_part (long_name place x m is s goes_on lt) = long_told (named x) m place s goes_on e x is refl lt
+  formula_why e p is_part (undeclared place x m is s goes_on le none) = undeclared_told (named x) m place s goes_on e x is refl le none
+  formula_why e p is_part (many_rows place t m b is s fit spelled over) = rows_told t m place s (subst Alive (sym spelled) (begun_alive b)) e b is fit spelled (omega arith)
 
   -- after the whole formula
   whole_why : (e : Fault) (f : Tree) (from : Cursor) → pos_of from ≡ stop → body ≡ spell f → EndTold from (Err e) → Told text e
@@ -274,7 +274,7 @@ drop_put s k (r ∷ rs) =
     ap (λ n. drop n (put (set s k r) (k + 1) rs)) e ∙ drop_put (set s k r) (k + 1) rs ∙ drop-set-lt (k + 1 + length rs) s k r (omega arith) ∙ ap (λ n. drop n s) (sym e)
 
 pub text_read : (text : List ℕ) (old new : List Span) (n : ℕ) (from : Cursor) (h : HeadRead text old new n from) (s s' : List Row) (d : Done) (r : Formed h.headed.hs [] (pos_of from) s 0 d s') → length s ≡ 64 → length old ≡ 16 → (place : ℕ) → Ended (pos_of d.after) place → TextRead text s s' old new (record { names = n; rows = d.filled })
-text_read text old new n from h s s' d r cap-rows cap-names place w =
+text_read text old new n from h s s' d r cap_rows cap_names place w =
     let f = h.headed in
     let many : d.filled ≡ 0 + length r.rows = r.filled in
     let fits = r.fits in

@@ -65,24 +65,24 @@ module _ (text : List ℕ) (hs : List (List ℕ)) (x : List ℕ) (spans : List S
       let many = sp.as_many in
       let a = length-append hs (x ∷ []) in
       let b = length-append spans (r ∷ []) in
-      let name-old : (i : ℕ) → i < length hs → get_or (hs ++ (x ∷ [])) i [] ≡ get_or hs i [] = λ i h. get_or_append_left hs _ [] i h in
+      let name_old : (i : ℕ) → i < length hs → get_or (hs ++ (x ∷ [])) i [] ≡ get_or hs i [] = λ i h. get_or_append_left hs _ [] i h in
       let name_new : get_or (hs ++ (x ∷ [])) (length hs) [] ≡ x = get_or_push hs x [] (length hs) refl in
-      let span-old : (i : ℕ) → i < length hs → get_or (spans ++ (r ∷ [])) i no_span ≡ get_or spans i no_span = λ i h. get_or_append_left spans _ no_span i (omega arith) in
-      let span-new : get_or (spans ++ (r ∷ [])) (length hs) no_span ≡ r = get_or_push spans r no_span (length hs) many in
+      let span_old : (i : ℕ) → i < length hs → get_or (spans ++ (r ∷ [])) i no_span ≡ get_or spans i no_span = λ i h. get_or_append_left spans _ no_span i (omega arith) in
+      let span_new : get_or (spans ++ (r ∷ [])) (length hs) no_span ≡ r = get_or_push spans r no_span (length hs) many in
       let Starts : ℕ → Type 0 = λ i. Stands text (names (take i (hs ++ (x ∷ [])))) (token (named (get_or (hs ++ (x ∷ [])) i []))) (get_or (spans ++ (r ∷ [])) i no_span).start in
       let Lengths : ℕ → Type 0 = λ i. (get_or (spans ++ (r ∷ [])) i no_span).len ≡ length (get_or (hs ++ (x ∷ [])) i []) in
       record {
         as_many = omega arith;
         starts = at_snoc Starts
             (λ i h. subst (λ l. Stands text (names l) (token (named (get_or (hs ++ (x ∷ [])) i []))) (get_or (spans ++ (r ∷ [])) i no_span).start) (sym (take-append-le i hs (x ∷ []) (omega arith)))
-            (subst (λ l. Stands text (names (take i hs)) (token (named l)) (get_or (spans ++ (r ∷ [])) i no_span).start) (sym (name-old i h))
-            (subst (λ (s : Span). Stands text (names (take i hs)) (token (named (get_or hs i []))) s.start) (sym (span-old i h)) (sp.starts i h))))
+            (subst (λ l. Stands text (names (take i hs)) (token (named l)) (get_or (spans ++ (r ∷ [])) i no_span).start) (sym (name_old i h))
+            (subst (λ (s : Span). Stands text (names (take i hs)) (token (named (get_or hs i []))) s.start) (sym (span_old i h)) (sp.starts i h))))
             (subst (λ l. Stands text (names l) (token (named (get_or (hs ++ (x ∷ [])) (length hs) []))) (get_or (spans ++ (r ∷ [])) (length hs) no_span).start) (sym (take_at hs (x ∷ []) (length hs) refl))
             (subst (λ l. Stands text (names hs) (token (named l)) (get_or (spans ++ (r ∷ [])) (length hs) no_span).start) (sym name_new)
-            (subst (λ (s : Span). Stands text (names hs) (token (named x)) s.start) (sym span-new) st)));
+            (subst (λ (s : Span). Stands text (names hs) (token (named x)) s.start) (sym span_new) st)));
         lengths = at_snoc Lengths
-            (λ i h. ap (λ (s : Span). s.len) (span-old i h) ∙ sp.lengths i h ∙ ap length (sym (name-old i h)))
-            (ap (λ (s : Span). s.len) span-new ∙ ln ∙ ap length (sym name_new));
+            (λ i h. ap (λ (s : Span). s.len) (span_old i h) ∙ sp.lengths i h ∙ ap length (sym (name_old i h)))
+            (ap (λ (s : Span). s.len) span_new ∙ ln ∙ ap length (sym name_new));
       }
 
 pub at_start : (text : List ℕ) (old : List Span) → length old ≡ 16 → Headed text old old 0 (begin text)

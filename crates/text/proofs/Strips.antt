@@ -42,21 +42,21 @@ module _ {X : Type 0} (n : ℕ) (s front : List X) (long : n ≤ length s) (same
 
 pub attempted : (text : List ℕ) (rows part_rows : List Row) (spans part_spans : List Span) (r : Result Counts Fault) → 64 ≤ length rows → 16 ≤ length spans → length text ≤ 1024 → length part_rows ≡ 64 → length part_spans ≡ 16
     → TextTold text (take 64 rows) part_rows (take 16 spans) part_spans r → AttemptTold text rows (part_rows ++ drop 64 rows) spans (part_spans ++ drop 16 spans) r
-attempted text rows part_rows spans part_spans (Ok c) enough-rows enough-names short rows-64 spans-16 t =
+attempted text rows part_rows spans part_spans (Ok c) enough_rows enough_names short rows_64 spans_16 t =
     let a = t.rows_filled.at_most in
     let b = t.names_filled.at_most in
     let rows_are = take-append-le c.rows part_rows (drop 64 rows) (omega arith) in
-    let spans-are = take-append-le c.names part_spans (drop 16 spans) (omega arith) in
-    let is-due = readable (record { for_rows = enough-rows; for_names = enough-names }) short t.readable (cc) in
+    let spans_are = take-append-le c.names part_spans (drop 16 spans) (omega arith) in
+    let is_due = readable (record { for_rows = enough_rows; for_names = enough_names }) short t.readable (cc) in
     record {
-      due = is-due;
-      only = λ o d. due_same d is-due;
-      left = (front_filled 64 rows part_rows enough-rows rows-64 c.rows t.rows_filled, front_filled 16 spans part_spans enough-names spans-16 c.names t.names_filled);
+      due = is_due;
+      only = λ o d. due_same d is_due;
+      left = (front_filled 64 rows part_rows enough_rows rows_64 c.rows t.rows_filled, front_filled 16 spans part_spans enough_names spans_16 c.names t.names_filled);
     }
-attempted text rows part_rows spans part_spans (Err e) enough-rows enough-names short rows-64 spans-16 t = record {
-  due = faulty (record { for_rows = enough-rows; for_names = enough-names }) short t.due refl;
-  only = λ o d. due_same d (faulty (record { for_rows = enough-rows; for_names = enough-names }) short t.due refl);
-  left = (front_within 64 rows part_rows enough-rows rows-64, front_within 16 spans part_spans enough-names spans-16, t.no_sample);
+attempted text rows part_rows spans part_spans (Err e) enough_rows enough_names short rows_64 spans_16 t = record {
+  due = faulty (record { for_rows = enough_rows; for_names = enough_names }) short t.due refl;
+  only = λ o d. due_same d (faulty (record { for_rows = enough_rows; for_names = enough_names }) short t.due refl);
+  left = (front_within 64 rows part_rows enough_rows rows_64, front_within 16 spans part_spans enough_names spans_16, t.no_sample);
 }
 
 -- what a refused reading leaves once the places that it may fill are cleared
