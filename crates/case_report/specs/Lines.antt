@@ -1,23 +1,14 @@
 -- The lines that the worked cases are shown on. Assumes nothing.
-use Rattle.std.specs.Prelude.{ℕ, ◌+◌, Bool, true, false, List, [], ◌∷◌, ◌++◌, codes, decimal}
+use Rattle.std.specs.Prelude.{ℕ, ◌+◌, List, [], ◌∷◌, ◌++◌, codes, decimal}
+use Rattle.std.specs.List.{flat_map}
 use Rattle.std.specs.Fmt.{signed_decimal}
-use Rattle.scale.specs.declared.light.Light.{Light}
-use Rattle.scale.specs.declared.light.Light.TheVariants.{No, Unknown, Yes}
+use Rattle.scale.specs.TwoWay.{yes_no}
+use Rattle.scale.specs.Lights.{light_word}
 use Rattle.cases.specs.Examples.{Worked, on_two_way, on_lights, on_lanes, on_margins, Example, examples}
-
-abbrev pub yes_no : Bool → List ℕ
-yes_no true = codes "yes"
-yes_no false = codes "no"
-
-abbrev pub light_word : Light → List ℕ
-light_word No = codes "no"
-light_word Unknown = codes "unknown"
-light_word Yes = codes "yes"
 
 -- each item's word, with a space before it
 abbrev pub spaced : {X : Type 0} → (X → List ℕ) → List X → List ℕ
-spaced word [] = []
-spaced word (x ∷ xs) = codes " " ++ (word x ++ spaced word xs)
+spaced word xs = flat_map (λ x. codes " " ++ word x) xs
 
 -- what a scale gives for some readings
 abbrev pub outcome : {X Y : Type 0} → List ℕ → (X → List ℕ) → (Y → List ℕ) → List X → List Y → List ℕ

@@ -3,6 +3,5 @@
 
 mod line;
 mod listing;
-mod word;
 
 pub use listing::list_cases;

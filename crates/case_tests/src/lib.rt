@@ -3,7 +3,7 @@
 
 #[cfg(test)]
 mod tests {
-    use cases::{Case, Charge, worked_case};
+    use cases::{Case, Charge, worked_case, worked_cases};
     use evaluator::evaluate;
     use rule::{Row, Rule};
     use scale::{Lanes, Light, Margin, Scale, TwoWay};
@@ -71,7 +71,7 @@ mod tests {
     }
 
     fn lanes_at(numbers: &[u64], t: usize) -> Lanes {
-        Lanes::new(numbers.get(t).copied().unwrap_or(0))
+        Lanes::from(numbers.get(t).copied().unwrap_or(0))
     }
 
     fn lanes(rows: &[Row], readings: &[u64], expected: &[u64]) -> bool {
@@ -81,10 +81,7 @@ mod tests {
     }
 
     fn margin(level: Option<&i16>) -> Margin {
-        match Margin::new(level.copied().unwrap_or(0)) {
-            Some(margin) => margin,
-            None => Margin::no(),
-        }
+        Margin::try_from(level.copied().unwrap_or(0)).unwrap_or(Margin::no())
     }
 
     fn margins(rows: &[Row], readings: &[i16], expected: &[i16]) -> bool {
@@ -96,34 +93,31 @@ mod tests {
         evaluate(&rule, &given, 0).level() == margin(expected.first()).level()
     }
 
-    fn comes_out(case: Case) -> bool {
+    fn comes_out(case: &Case) -> bool {
         match case.charge {
-            Charge::OnTwoWay(signals, letters, verdicts) => two_way(
-                case.rows, signals, letters, verdicts,
-            ),
-            Charge::OnLights(readings, values) => agrees(case.rows, 1, readings, values),
-            Charge::OnLanes(readings, values) => lanes(case.rows, readings, values),
-            Charge::OnMargins(readings, values) => margins(case.rows, readings, values),
+            Charge::OnTwoWay {
+                signals,
+                letters,
+                verdicts,
+            } => two_way(case.rows, signals, letters, verdicts),
+            Charge::OnLights { readings, values } => agrees(case.rows, 1, readings, values),
+            Charge::OnLanes { readings, values } => lanes(case.rows, readings, values),
+            Charge::OnMargins { readings, values } => margins(case.rows, readings, values),
         }
     }
 
     #[test]
-    fn cases_come_out_by_the_evaluator(rt: HostRuntime) -> Result<(), Fail> {
-        for k in 0..10 {
-            let Some(case) = worked_case(k) else {
-                return Err(Fail::new("no such case"));
-            };
+    fn cases_come_out_by_the_evaluator(rt: HostRuntime) {
+        assert_eq!(rt; worked_cases().len(), 10);
+        for case in worked_cases() {
             assert!(rt; comes_out(case), "{}", case.text);
         }
-        Ok(())
     }
 
     #[test]
     fn texts_lay_the_rows(rt: HostRuntime) -> Result<(), Fail> {
         for k in 0..10 {
-            let Some(case) = worked_case(k) else {
-                return Err(Fail::new("no such case"));
-            };
+            let case = worked_case(k).ok_or("no such case")?;
             assert!(rt; reads_as(case.text.as_bytes(), case.rows), "{}", case.text);
         }
         assert!(rt; worked_case(10).is_none());

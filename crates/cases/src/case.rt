@@ -5,11 +5,24 @@ use scale::{Light, TwoWay};
 /// The samples of a charge on one of the scales, and the rule's value at each. Off two-way there is one signal.
 #[derive(Clone, Copy)]
 pub enum Charge {
-    /// The number of signals, samples as letters (bit n is signal n), verdicts.
-    OnTwoWay(usize, &'static [u64], &'static [TwoWay]),
-    OnLights(&'static [Light], &'static [Light]),
-    OnLanes(&'static [u64], &'static [u64]),
-    OnMargins(&'static [i16], &'static [i16]),
+    OnTwoWay {
+        signals: usize,
+        /// A sample each: bit n is signal n.
+        letters: &'static [u64],
+        verdicts: &'static [TwoWay],
+    },
+    OnLights {
+        readings: &'static [Light],
+        values: &'static [Light],
+    },
+    OnLanes {
+        readings: &'static [u64],
+        values: &'static [u64],
+    },
+    OnMargins {
+        readings: &'static [i16],
+        values: &'static [i16],
+    },
 }
 
 #[derive(Clone, Copy)]

@@ -5,4 +5,4 @@ mod case;
 mod list;
 
 pub use case::{Case, Charge};
-pub use list::worked_case;
+pub use list::{worked_case, worked_cases};

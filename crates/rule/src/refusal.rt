@@ -1,11 +1,14 @@
 //! Why a call is refused, and where.
+mod words;
+
 ghost use Rattle.std.specs.Prelude.{◌≡◌};
 ghost use Rattle.rule.specs.Refusals.{number, layer};
+ghost use Rattle.rule.specs.Faults.{fault};
 
-/// The reasons for a refusal. docs/REFUSALS.md has when each is due.
-#[derive(Clone, Copy)]
+/// The reasons for a refusal, each with the number by which users know it. docs/REFUSALS.md has when each is due.
+#[derive(Clone, Copy, Debug, PartialEq, Eq)]
 pub enum Refusal {
-    ShortStrip,
+    ShortStrip = 1,
     LongText,
     NoToken,
     OutOfPlace,
@@ -27,7 +30,7 @@ pub enum Refusal {
 }
 
 /// The part of the module that a refusal comes from.
-#[derive(Clone, Copy)]
+#[derive(Clone, Copy, Debug, PartialEq, Eq)]
 pub enum Layer {
     Strip,
     Text,
@@ -40,8 +43,9 @@ pub enum Layer {
     Field,
 }
 
-/// A refusal with its place and the number of the sample it concerns, each 0 where none applies.
-#[derive(Clone, Copy)]
+/// A refusal with its place and the number of the sample it concerns. Where none applies users are told 0, so it is 0
+/// here too: an `Option` would be made 0 again wherever it is shown.
+#[derive(Clone, Copy, Debug, PartialEq, Eq)]
 pub struct Fault {
     pub refusal: Refusal,
     pub place: usize,
@@ -53,27 +57,7 @@ impl Refusal {
     pub fn code(self) -> u8
         ensures by_definition { result ≡ number self }
     {
-        match self {
-            Refusal::ShortStrip => 1,
-            Refusal::LongText => 2,
-            Refusal::NoToken => 3,
-            Refusal::OutOfPlace => 4,
-            Refusal::LongName => 5,
-            Refusal::RepeatedName => 6,
-            Refusal::ManyNames => 7,
-            Refusal::UndeclaredName => 8,
-            Refusal::UnfitRows => 9,
-            Refusal::ManySignals => 10,
-            Refusal::ManyStates => 11,
-            Refusal::ReadingCount => 12,
-            Refusal::FullCharge => 13,
-            Refusal::NoSample => 14,
-            Refusal::NotInTable => 15,
-            Refusal::CutShort => 16,
-            Refusal::NoSuchSignal => 17,
-            Refusal::MissingReading => 18,
-            Refusal::UnfitField => 19,
-        }
+        self as u8
     }
 
     /// The layer that the refusal comes from.
@@ -95,5 +79,27 @@ impl Refusal {
             Refusal::FullCharge | Refusal::NoSample => Layer::Charge,
             Refusal::CutShort | Refusal::UnfitField => Layer::Field,
         }
+    }
+}
+
+impl Fault {
+    /// The fault at a place of a text, where there is no sample to speak of.
+    pub fn at(refusal: Refusal, place: usize) -> Fault
+        ensures at_place { result ≡ fault refusal place }
+    {
+        Fault {
+            refusal,
+            place,
+            sample: 0,
+        }
+    }
+}
+
+/// The fault of a call that has no place and no sample to tell of.
+impl From<Refusal> for Fault {
+    ghost from_gives = { λ refusal f. f ≡ fault refusal 0 };
+
+    fn from(refusal: Refusal) -> Fault {
+        Fault::at(refusal, 0)
     }
 }

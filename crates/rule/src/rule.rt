@@ -1,9 +1,11 @@
 //! A rule: lent rows that are fit, and how they are taken up.
-ghost use Rattle.std.specs.Prelude.{◌≡◌, ◌≤◌, false, [], ◌∷◌, length, take, MatchBool, count_by, MatchResult};
+ghost use Rattle.std.specs.Prelude.{◌≡◌, ◌≤◌, false, [], ◌∷◌, length, take, MatchBool, count_by, MatchResult, IfOk};
 ghost use Rattle.rule.specs.declared.row.Row.TheVariants.{Constant};
 ghost use Rattle.rule.specs.Rows.{remembering};
 ghost use Rattle.rule.specs.Refusals.{number};
-ghost use Rattle.rule.specs.Fit.{row_fits, EachFits, Fit, Unfit, Placeless};
+ghost use Rattle.rule.specs.Fit.{EachFits, Fit, Unfit, Placeless};
+ghost use Rattle.rule.specs.declared.refusal.Refusal.TheVariants.{UnfitRows};
+ghost use Rattle.rule.specs.Faults.{fault};
 
 use super::refusal::{Fault, Refusal};
 use super::row::{Row, count_remembering};
@@ -27,25 +29,14 @@ pub struct Rule<'a> {
     ghost memory_counts: { memory ≡ count_by remembering rows.now },
 }
 
-fn row_fits(row: Row, k: usize, signals: usize) -> bool
-    ensures by_definition { result ≡ row_fits signals k row }
-{
-    match row {
-        Row::Constant(_) => true,
-        Row::Signal(n) => n < signals,
-        Row::Unary(_, a) => a < k,
-        Row::Binary(_, a, b) => a < k && b < k,
-    }
-}
-
 fn fits(rows: &[Row], signals: usize) -> bool
     ensures decides { MatchBool result (Fit signals rows.now) (Fit signals rows.now → ⊥) }
 {
-    if signals < 1 || signals > MOST_SIGNALS || rows.len() < 1 || rows.len() > MOST_ROWS {
+    if signals < 1 || signals > MOST_SIGNALS || rows.is_empty() || rows.len() > MOST_ROWS {
         return false;
     }
-    for k in 0..rows.len() {
-        if !row_fits(rows[k], k, signals) {
+    for (k, row) in rows.iter().enumerate() {
+        if !row.fits(k, signals) {
             return false;
         }
     }
@@ -67,17 +58,20 @@ impl<'a> Rule<'a> {
         }
     }
 
-    fn of(rows: &'a [Row], signals: usize) -> Rule<'a>
-        requires { Fit signals rows.now }
-        ensures same_rows { result.rows.now ≡ rows.now }
-        ensures same_signals { result.signals ≡ signals }
+    /// The rule of these rows over so many signals, if they are one.
+    pub fn new(rows: &'a [Row], signals: usize) -> Result<Rule<'a>, Fault>
+        ensures exactly_if_fit { MatchResult result (λ _. Fit signals rows.now) (λ f. (Fit signals rows.now → ⊥) × (f ≡ fault UnfitRows 0)) }
+        ensures over_those_rows { IfOk result (λ rule. (rule.rows.now ≡ rows.now) × (rule.signals ≡ signals)) }
     {
+        if !fits(rows, signals) {
+            return Err(Refusal::UnfitRows.into());
+        }
         let memory = count_remembering(rows);
-        Rule {
+        Ok(Rule {
             rows,
             signals,
             memory,
-        }
+        })
     }
 
     /// Takes up the first `count` rows as the rule, over so many signals. A refusal leaves the rule as it was.
@@ -85,22 +79,8 @@ impl<'a> Rule<'a> {
         ensures taken_exactly_if_fit { MatchResult result (λ _. (count ≤ length rows.now) × Fit signals (take count rows.now)) (λ f. Unfit rows.now count signals (number f.refusal) × Placeless f) }
         ensures new_rule_or_the_old { MatchResult result (λ _. (self.new.rows.now ≡ take count rows.now) × (self.new.signals ≡ signals)) (λ _. self.new ≡ self.old) }
     {
-        if rows.len() < count {
-            return Err(Fault {
-                refusal: Refusal::ShortStrip,
-                place: 0,
-                sample: 0,
-            });
-        }
-        let rows = &rows[0..count];
-        if !fits(rows, signals) {
-            return Err(Fault {
-                refusal: Refusal::UnfitRows,
-                place: 0,
-                sample: 0,
-            });
-        }
-        *self = Rule::of(rows, signals);
+        let lent = rows.get(..count).ok_or(Refusal::ShortStrip)?;
+        *self = Rule::new(lent, signals)?;
         Ok(())
     }
 

@@ -3,7 +3,8 @@
 
 #[cfg(test)]
 mod tests {
-    use rule::{BinaryOperator, Row, Rule, UnaryOperator};
+    use rule::{BinaryOperator, Fault, Layer, Refusal, Row, Rule, UnaryOperator};
+    use std::alloc::AllocError;
 
     // The number of the refusal, or 0, for the first `count` rows over so many signals.
     fn answer(rows: &[Row], count: usize, signals: usize) -> u8 {
@@ -59,5 +60,46 @@ mod tests {
         assert_eq!(rt; answer(&own, 1, 17), 9, "seventeen signals");
         assert_eq!(rt; answer(&many, 384, 1), 0);
         assert_eq!(rt; answer(&many, 385, 1), 9);
+    }
+
+    #[test]
+    fn rows_are_made_a_rule_or_refused(rt: HostRuntime) {
+        let rows = [Row::Signal(1), Row::Unary(UnaryOperator::Once, 0)];
+        assert!(rt; Rule::new(&rows, 2).is_ok());
+        assert_eq!(rt;
+            Rule::new(&rows, 1).err(),
+            Some(Fault::from(Refusal::UnfitRows))
+        );
+        assert_eq!(rt;
+            Rule::new(&[], 1).err(),
+            Some(Fault::from(Refusal::UnfitRows))
+        );
+    }
+
+    #[test]
+    fn rows_and_faults_are_written_out(rt: HostRuntime) -> Result<(), AllocError> {
+        let heap = rt.alloc();
+        assert_eq!(rt; Row::Constant(true).to_string(heap)?.as_str(), "const yes");
+        assert_eq!(rt; Row::Signal(12).to_string(heap)?.as_str(), "signal 12");
+        assert_eq!(rt;
+            Row::Unary(UnaryOperator::Not, 3).to_string(heap)?.as_str(),
+            "! 3"
+        );
+        assert_eq!(rt;
+            Row::Binary(BinaryOperator::Iff, 2, 5)
+                .to_string(heap)?
+                .as_str(),
+            "<-> 2 5"
+        );
+        assert_eq!(rt; Layer::Letters.to_string(heap)?.as_str(), "letters");
+        assert_eq!(rt;
+            Fault::at(Refusal::OutOfPlace, 9).to_string(heap)?.as_str(),
+            "refused 4 at 9 in grammar"
+        );
+        assert_eq!(rt;
+            Refusal::UndeclaredName.to_string(heap)?.as_str(),
+            "This name is not one of those before the colon."
+        );
+        Ok(())
     }
 }

@@ -1,4 +1,5 @@
 -- Lights: no, unknown and yes, in that order. Assumes nothing.
+use Rattle.std.specs.Prelude.{ℕ, List, codes}
 use Rattle.scale.specs.Algebra.{Algebra}
 use Rattle.scale.specs.declared.light.Light.{Light}
 use Rattle.scale.specs.declared.light.Light.TheVariants.{No, Unknown, Yes}
@@ -24,3 +25,9 @@ turned Yes = No
 
 abbrev pub lights : Algebra Light
 lights = record { join = greater; meet = lesser; opposite = turned; yes = Yes; no = No }
+
+-- how a value is written
+abbrev pub light_word : Light → List ℕ
+light_word No = codes "no"
+light_word Unknown = codes "unknown"
+light_word Yes = codes "yes"

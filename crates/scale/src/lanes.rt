@@ -1,24 +1,36 @@
 //! Lanes: 64 two-way values in one number, one charge to a bit.
 pub mod scale;
 
-ghost use Rattle.std.specs.Prelude.{◌≡◌};
+ghost use Rattle.std.specs.Prelude.{◌≡◌, decimal, Some};
 
-#[derive(Clone, Copy, PartialEq, Debug)]
+use std::fmt;
+
+#[derive(Clone, Copy, PartialEq, Eq, Debug)]
 pub struct Lanes {
     bits: u64,
 }
 
-impl Lanes {
-    /// The value whose lane i is bit i of the number.
-    pub fn new(bits: u64) -> Lanes
-        ensures the_number { result.bits ≡ bits }
-    {
+/// Lane i of the value is bit i of the number.
+impl From<u64> for Lanes {
+    ghost from_gives = { λ bits value. value.bits ≡ bits };
+
+    fn from(bits: u64) -> Lanes {
         Lanes { bits }
     }
+}
 
+impl Lanes {
     pub fn bits(self) -> u64
         ensures the_number { result ≡ self.bits }
     {
         self.bits
+    }
+}
+
+impl fmt::Display for Lanes {
+    ghost output = { λ value. Some (decimal value.bits) };
+
+    fn fmt<W: fmt::Write>(&self, f: &mut fmt::Formatter<W>) -> fmt::Result {
+        write!(f, "{}", self.bits)
     }
 }

@@ -12,7 +12,7 @@ ghost use Rattle.scale.specs.Algebra.{Algebra, Laws};
 
 pub use lanes::Lanes;
 pub use light::Light;
-pub use margin::Margin;
+pub use margin::{Margin, OutOfBounds};
 pub use translate::{firm_value, lane_of};
 pub use two_way::TwoWay;
 

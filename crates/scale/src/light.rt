@@ -1,15 +1,30 @@
 //! Lights: no, unknown and yes, for charges whose probes may fail.
+ghost use Rattle.std.specs.Prelude.{Some};
 ghost use Rattle.scale.specs.declared.light.Light.{Light as Shown};
-ghost use Rattle.scale.specs.Lights.{lights};
+ghost use Rattle.scale.specs.Lights.{lights, light_word};
 ghost use Rattle.scale.specs.Laws.{lights_laws};
 
 use super::Scale;
+use std::fmt;
 
-#[derive(Clone, Copy, PartialEq, Debug)]
+/// Unknown stands between no and yes.
+#[derive(Clone, Copy, PartialEq, Eq, PartialOrd, Ord, Debug)]
 pub enum Light {
     No,
     Unknown,
     Yes,
+}
+
+impl fmt::Display for Light {
+    ghost output = { λ light. Some (light_word light) };
+
+    fn fmt<W: fmt::Write>(&self, f: &mut fmt::Formatter<W>) -> fmt::Result {
+        f.write_str(match self {
+            Light::No => "no",
+            Light::Unknown => "unknown",
+            Light::Yes => "yes",
+        })
+    }
 }
 
 impl Scale for Light {
@@ -22,19 +37,11 @@ impl Scale for Light {
     ghost lawful = { lights_laws };
 
     fn join(self, other: Light) -> Light {
-        match (self, other) {
-            (Light::Yes, _) | (_, Light::Yes) => Light::Yes,
-            (Light::Unknown, _) | (_, Light::Unknown) => Light::Unknown,
-            (Light::No, Light::No) => Light::No,
-        }
+        self.max(other)
     }
 
     fn meet(self, other: Light) -> Light {
-        match (self, other) {
-            (Light::No, _) | (_, Light::No) => Light::No,
-            (Light::Unknown, _) | (_, Light::Unknown) => Light::Unknown,
-            (Light::Yes, Light::Yes) => Light::Yes,
-        }
+        self.min(other)
     }
 
     fn opposite(self) -> Light {

@@ -24,9 +24,5 @@ pub fn lane_of(value: Lanes, i: usize) -> Option<TwoWay>
     if i >= 64 {
         return None;
     }
-    if (value.bits() >> i) & 1 == 1 {
-        Some(TwoWay::Yes)
-    } else {
-        Some(TwoWay::No)
-    }
+    Some(TwoWay::from((value.bits() >> i) & 1 == 1))
 }

@@ -1,14 +1,35 @@
 //! Two-way: no and yes.
-ghost use Rattle.std.specs.Prelude.{Bool};
-ghost use Rattle.scale.specs.TwoWay.{two_way, held};
+ghost use Rattle.std.specs.Prelude.{◌≡◌, Bool, Some};
+ghost use Rattle.scale.specs.TwoWay.{two_way, held, yes_no};
 ghost use Rattle.scale.specs.Laws.{two_way_laws};
 
 use super::Scale;
+use std::fmt;
 
-#[derive(Clone, Copy, PartialEq, Debug)]
+/// No is below yes.
+#[derive(Clone, Copy, PartialEq, Eq, PartialOrd, Ord, Debug)]
 pub enum TwoWay {
     No,
     Yes,
+}
+
+impl From<bool> for TwoWay {
+    ghost from_gives = { λ b value. held value ≡ b };
+
+    fn from(b: bool) -> TwoWay {
+        if b { TwoWay::Yes } else { TwoWay::No }
+    }
+}
+
+impl fmt::Display for TwoWay {
+    ghost output = { λ value. Some (yes_no (held value)) };
+
+    fn fmt<W: fmt::Write>(&self, f: &mut fmt::Formatter<W>) -> fmt::Result {
+        f.write_str(match self {
+            TwoWay::No => "no",
+            TwoWay::Yes => "yes",
+        })
+    }
 }
 
 impl Scale for TwoWay {
@@ -21,17 +42,11 @@ impl Scale for TwoWay {
     ghost lawful = { two_way_laws };
 
     fn join(self, other: TwoWay) -> TwoWay {
-        match self {
-            TwoWay::No => other,
-            TwoWay::Yes => TwoWay::Yes,
-        }
+        self.max(other)
     }
 
     fn meet(self, other: TwoWay) -> TwoWay {
-        match self {
-            TwoWay::No => TwoWay::No,
-            TwoWay::Yes => other,
-        }
+        self.min(other)
     }
 
     fn opposite(self) -> TwoWay {

@@ -4,6 +4,7 @@
 #[cfg(test)]
 mod tests {
     use scale::{Lanes, Light, Margin, Scale, TwoWay, firm_value, lane_of};
+    use std::alloc::AllocError;
 
     #[test]
     fn lights_are_ordered(rt: HostRuntime) {
@@ -21,11 +22,11 @@ mod tests {
 
     #[test]
     fn lanes_work_lane_by_lane(rt: HostRuntime) {
-        let a = Lanes::new(0b1100);
-        let b = Lanes::new(0b1010);
-        assert_eq!(rt; a.join(b), Lanes::new(0b1110));
-        assert_eq!(rt; a.meet(b), Lanes::new(0b1000));
-        assert_eq!(rt; a.opposite().meet(Lanes::new(0xff)), Lanes::new(0xf3));
+        let a = Lanes::from(0b1100);
+        let b = Lanes::from(0b1010);
+        assert_eq!(rt; a.join(b), Lanes::from(0b1110));
+        assert_eq!(rt; a.meet(b), Lanes::from(0b1000));
+        assert_eq!(rt; a.opposite().meet(Lanes::from(0xff)), Lanes::from(0xf3));
         assert_eq!(rt; lane_of(a, 2), Some(TwoWay::Yes));
         assert_eq!(rt; lane_of(a, 1), Some(TwoWay::No));
         assert_eq!(rt; lane_of(Lanes::yes(), 63), Some(TwoWay::Yes));
@@ -33,18 +34,15 @@ mod tests {
     }
 
     fn margin(level: i16) -> Margin {
-        match Margin::new(level) {
-            Some(margin) => margin,
-            None => Margin::no(),
-        }
+        Margin::try_from(level).unwrap_or(Margin::no())
     }
 
     #[test]
     fn margins_stay_within_bounds(rt: HostRuntime) {
-        assert!(rt; Margin::new(30_000).is_some());
-        assert!(rt; Margin::new(-30_000).is_some());
-        assert!(rt; Margin::new(30_001).is_none());
-        assert!(rt; Margin::new(-30_001).is_none());
+        assert!(rt; Margin::try_from(30_000).is_ok());
+        assert!(rt; Margin::try_from(-30_000).is_ok());
+        assert!(rt; Margin::try_from(30_001).is_err());
+        assert!(rt; Margin::try_from(-30_001).is_err());
         let five = margin(5);
         let two = margin(-2);
         assert_eq!(rt; five.join(two).level(), 5);
@@ -54,12 +52,23 @@ mod tests {
     }
 
     #[test]
+    fn values_are_written_as_words_and_numbers(rt: HostRuntime) -> Result<(), AllocError> {
+        let heap = rt.alloc();
+        assert_eq!(rt; TwoWay::from(true).to_string(heap)?.as_str(), "yes");
+        assert_eq!(rt; TwoWay::from(false).to_string(heap)?.as_str(), "no");
+        assert_eq!(rt; Light::Unknown.to_string(heap)?.as_str(), "unknown");
+        assert_eq!(rt; Lanes::from(10).to_string(heap)?.as_str(), "10");
+        assert_eq!(rt; margin(-5).to_string(heap)?.as_str(), "-5");
+        Ok(())
+    }
+
+    #[test]
     fn firm_values_keep_their_sense(rt: HostRuntime) {
         let light: Light = firm_value(TwoWay::Yes);
         let lanes: Lanes = firm_value(TwoWay::Yes);
         let margin: Margin = firm_value(TwoWay::No);
         assert_eq!(rt; light, Light::Yes);
-        assert_eq!(rt; lanes, Lanes::new(u64::MAX));
+        assert_eq!(rt; lanes, Lanes::from(u64::MAX));
         assert_eq!(rt; margin.level(), -30_000);
     }
 }

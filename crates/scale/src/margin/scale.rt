@@ -16,17 +16,11 @@ impl Scale for Margin {
     ghost lawful = { margins_laws };
 
     fn join(self, other: Margin) -> Margin {
-        if self.level < other.level {
-            return other;
-        }
-        self
+        self.max(other)
     }
 
     fn meet(self, other: Margin) -> Margin {
-        if self.level < other.level {
-            return self;
-        }
-        other
+        self.min(other)
     }
 
     fn opposite(self) -> Margin {

@@ -1,37 +1,17 @@
-use Rattle.std.proofs.Common.{sym, ap, rules}
-use Rattle.cases.specs.Shown.{nth}
-use Rattle.cases.proofs.Holding.{all_hold}
+use Rattle.std.proofs.Common.{◌≡◌, ◌≤◌, ℕ, List, map, length, MatchOption, Bor, arith}
+use Rattle.std.specs.Prelude.{Option, Some, None, slice_index_or}
+use Rattle.std.specs.Option.{option_copied}
+use Rattle.std.specs.Slice.{IsItemAt}
+use Rattle.std.proofs.lemmas.Grind.{common_steps}
+use Rattle.cases.specs.declared.case.Case.{Case}
+use Rattle.cases.specs.Examples.{Example, examples}
+use Rattle.cases.specs.Shown.{shown, nth}
 use Rattle.cases.proofs.list.worked_case.Goals as goal
 
-pub returns-in-0 : goal.returns-in-0
-returns-in-0 c = record { the_case = sym (ap nth c.in-0.is); all_hold = all_hold }
+-- item k of cases that show these examples, of which d is the one past the end
+item_shown : (cases : List Case) (es : List Example) (d : Example) (k : ℕ) (item : Option (Bor Case)) → IsItemAt cases k item → map shown cases ≡ es → MatchOption (option_copied item) (length es ≤ k) (λ c. shown c ≡ slice_index_or es k d)
+item_shown cases es d k None at all = grind (arith, common_steps)
+item_shown cases es d k (Some c) at all = grind (arith, common_steps)
 
-pub returns-in-1 : goal.returns-in-1
-returns-in-1 c = record { the_case = sym (ap nth c.in-1.is); all_hold = all_hold }
-
-pub returns-in-2 : goal.returns-in-2
-returns-in-2 c = record { the_case = sym (ap nth c.in-2.is); all_hold = all_hold }
-
-pub returns-in-3 : goal.returns-in-3
-returns-in-3 c = record { the_case = sym (ap nth c.in-3.is); all_hold = all_hold }
-
-pub returns-in-4 : goal.returns-in-4
-returns-in-4 c = record { the_case = sym (ap nth c.in-4.is); all_hold = all_hold }
-
-pub returns-in-5 : goal.returns-in-5
-returns-in-5 c = record { the_case = sym (ap nth c.in-5.is); all_hold = all_hold }
-
-pub returns-in-6 : goal.returns-in-6
-returns-in-6 c = record { the_case = sym (ap nth c.in-6.is); all_hold = all_hold }
-
-pub returns-in-7 : goal.returns-in-7
-returns-in-7 c = record { the_case = sym (ap nth c.in-7.is); all_hold = all_hold }
-
-pub returns-in-8 : goal.returns-in-8
-returns-in-8 c = record { the_case = sym (ap nth c.in-8.is); all_hold = all_hold }
-
-pub returns-in-9 : goal.returns-in-9
-returns-in-9 c = record { the_case = sym (ap nth c.in-9.is); all_hold = all_hold }
-
-pub returns-in_default : goal.returns-in_default
-returns-in_default c = record { the_case = search rules; all_hold = all_hold }
+pub returns-clause-the_case : goal.returns-clause-the_case
+returns-clause-the_case c = rw c.copied.ensures (item_shown _ examples (nth 10) _ _ c.get.ensures.lookup c.worked_cases.ensures.the_cases)
