@@ -1,6 +1,3 @@
-mod Numbering
-mod Breaks
-mod Writing
-mod Pointing
-mod Cutting
+mod Blanks
+mod Parts
 mod Made

@@ -1,25 +1,26 @@
 -- What is reported of a reading. Assumes nothing.
-use Rattle.std.specs.Prelude.{ℕ, Bool, cond, ◌&&◌, List, [], ◌++◌, map, length, take, drop, Ok, Err, codes, decimal, count_by, Result, nat_le}
+use Rattle.std.specs.Prelude.{ℕ, Bool, if◌then◌else◌, ◌&&◌, List, [], ◌++◌, map, length, take, drop, Ok, Err, codes, decimal, count_by, Result, nat_le}
 use Rattle.rule.specs.declared.refusal.Fault.{Fault}
 use Rattle.rule.specs.declared.refusal.Refusal.{Refusal}
 use Rattle.rule.specs.declared.row.Row.{Row}
-use Rattle.rule.specs.Refusals.{number, layer}
+use Rattle.rule.specs.Faults.{fault_text}
+use Rattle.rule.specs.Reasons.{sentence}
+use Rattle.rule.specs.Refusals.{number}
 use Rattle.rule.specs.Rows.{remembering}
 use Rattle.text.specs.declared.span.Counts.{Counts}
 use Rattle.text.specs.declared.span.Span.{Span}
 use Rattle.report.specs.Excerpts.{visible, excerpt}
 use Rattle.report.specs.Lines.{numbered, row_line}
-use Rattle.report.specs.Reasons.{layer_name, sentence}
 
 -- the refusals that tell a place in the text
 abbrev pub placed : Refusal → Bool
 placed why = nat_le 3 (number why) && nat_le (number why) 9
 
 abbrev pub refused_line : Fault → List ℕ
-refused_line f = codes "refused " ++ (decimal (number f.refusal) ++ (codes " at " ++ (decimal f.place ++ (codes " in " ++ (layer_name (layer f.refusal) ++ codes "\n")))))
+refused_line f = fault_text f ++ codes "\n"
 
 abbrev pub refusal_report : List ℕ → Fault → List ℕ
-refusal_report bytes f = refused_line f ++ (cond (placed f.refusal) (excerpt bytes f.place) [] ++ (sentence f.refusal ++ codes "\n"))
+refusal_report bytes f = refused_line f ++ ((if placed f.refusal then excerpt bytes f.place else []) ++ (sentence f.refusal ++ codes "\n"))
 
 -- the bytes of a span, as far as they lie within the text
 abbrev pub spanned : List ℕ → Span → List ℕ

@@ -1,43 +1,42 @@
-//! The listing of rows.
-ghost use Rattle.std.specs.Prelude.{◌≡◌, IfOk, string_bytes};
-ghost use Rattle.report.specs.Lines.{numbered, verdict, formula, row_line};
+//! The listings of signals and of rows, a line each.
+ghost use Rattle.std.specs.Prelude.{◌≡◌, take, IfOk, string_bytes};
+ghost use Rattle.report.specs.Lines.{numbered, row_line};
+ghost use Rattle.report.specs.Reports.{spanned, signal_line};
 
-use super::symbol::{binary_symbol, unary_symbol};
+use super::visible::Visible;
 use rule::Row;
 use std::alloc::{AllocError, Global};
+use text::Span;
 
-fn yes_or_no(value: bool) -> &'static str
-    ensures by_definition { result.now ≡ verdict value }
+/// The first `count` items, or all where there are fewer.
+pub(crate) fn first<T>(items: &[T], count: usize) -> &[T]
+    ensures by_definition { result.now ≡ take count items.now }
 {
-    if value { "yes" } else { "no" }
+    items.get(..count).unwrap_or(items)
 }
 
-fn formula_text(heap: Global, row: Row) -> Result<String, AllocError>
-    ensures written { IfOk result (λ s. string_bytes s ≡ formula row) }
+/// The bytes of a span, as far as they lie within the text.
+fn bytes_at(text: &[u8], span: Span) -> &[u8]
+    ensures by_definition { result.now ≡ spanned text.now span }
 {
-    match row {
-        Row::Constant(value) => {
-            let verdict = yes_or_no(value);
-            format!(in heap; "const {verdict}")
-        }
-        Row::Signal(n) => format!(in heap; "signal {n}"),
-        Row::Unary(operator, a) => {
-            let symbol = unary_symbol(operator);
-            format!(in heap; "{symbol} {a}")
-        }
-        Row::Binary(operator, a, b) => {
-            let symbol = binary_symbol(operator);
-            format!(in heap; "{symbol} {a} {b}")
-        }
+    first(text.get(span.start..).unwrap_or(&[]), span.len)
+}
+
+// Two short loops and no shared one: over a closure that writes a line it would be longer, with clauses on the closure.
+/// The signals, one a line, each with its number.
+pub(crate) fn signal_listing(
+    heap: Global,
+    text: &[u8],
+    names: &[Span],
+) -> Result<String, AllocError>
+    ensures lines { IfOk result (λ s. string_bytes s ≡ numbered (signal_line text.now) 0 names.now) }
+{
+    let mut listing = String::new(heap);
+    for (n, span) in names.iter().enumerate() {
+        let name = Visible(bytes_at(text, *span));
+        writeln!(listing, "signal {n} {name}")?;
     }
-}
-
-fn row_line(heap: Global, k: usize, row: Row) -> Result<String, AllocError>
-    ensures line { IfOk result (λ s. string_bytes s ≡ row_line k row) }
-{
-    let formula = formula_text(heap, row)?;
-    let formula = formula.as_str();
-    format!(in heap; "{k}: {formula}\n")
+    Ok(listing)
 }
 
 /// The rows, one a line, each with its number.
@@ -46,8 +45,7 @@ pub(crate) fn row_listing(heap: Global, rows: &[Row]) -> Result<String, AllocErr
 {
     let mut listing = String::new(heap);
     for (k, row) in rows.iter().enumerate() {
-        let line = row_line(heap, k, *row)?;
-        listing.push_str(line.as_str())?;
+        writeln!(listing, "{k}: {row}")?;
     }
     Ok(listing)
 }

@@ -3,7 +3,7 @@
 
 #[cfg(test)]
 mod tests {
-    use report::{check_report, check_text, list_rows, rows_report};
+    use report::{Reading, check_text, list_rows};
     use rule::{BinaryOperator, Fault, Refusal, Row, UnaryOperator};
     use std::alloc::{AllocError, Global};
     use std::test::Fail;
@@ -15,12 +15,13 @@ mod tests {
         refusal: Refusal,
         place: usize,
     ) -> Result<String, AllocError> {
-        let outcome = Err(Fault {
-            refusal,
-            place,
-            sample: 0,
-        });
-        check_report(heap, bytes, outcome, &[], &[])
+        let reading = Reading {
+            text: bytes,
+            outcome: Err(Fault::at(refusal, place)),
+            rows: &[],
+            names: &[],
+        };
+        reading.check_report(heap)
     }
 
     fn read(heap: Global, bytes: &[u8], counts: Counts) -> Result<String, AllocError> {
@@ -35,7 +36,13 @@ mod tests {
             Span { start: 4, len: 4 },
             Span { start: 9, len: 100 },
         ];
-        check_report(heap, bytes, Ok(counts), &rows, &names)
+        let reading = Reading {
+            text: bytes,
+            outcome: Ok(counts),
+            rows: &rows,
+            names: &names,
+        };
+        reading.check_report(heap)
     }
 
     #[test]
@@ -58,7 +65,13 @@ mod tests {
             Row::Binary(BinaryOperator::WeakSince, 6, 7),
             Row::Signal(9),
         ];
-        let report = rows_report(rt.alloc(), b"", Ok(Counts { names: 3, rows: 15 }), &rows)?;
+        let reading = Reading {
+            text: b"",
+            outcome: Ok(Counts { names: 3, rows: 15 }),
+            rows: &rows,
+            names: &[],
+        };
+        let report = reading.rows_report(rt.alloc())?;
         assert_eq!(rt;
             report.as_str(),
             "0: signal 2\n1: const yes\n2: const no\n3: ! 0\n4: Y 1\n5: Z 2\n6: O 3\n7: H 4\n8: & 0 1\n9: | 1 2\n\
@@ -255,12 +268,13 @@ mod tests {
 
     #[test]
     fn rows_of_a_refused_text(rt: HostRuntime) -> Result<(), Fail> {
-        let fault = Fault {
-            refusal: Refusal::LongText,
-            place: 0,
-            sample: 0,
+        let reading = Reading {
+            text: b"hot",
+            outcome: Err(Refusal::LongText.into()),
+            rows: &[Row::Constant(true)],
+            names: &[],
         };
-        let report = rows_report(rt.alloc(), b"hot", Err(fault), &[Row::Constant(true)])?;
+        let report = reading.rows_report(rt.alloc())?;
         assert_eq!(rt;
             report.as_str(),
             "refused 2 at 0 in text\nThe text is longer than 1024 bytes; shorten it or split it into several rules.\n"

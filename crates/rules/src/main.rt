@@ -9,10 +9,7 @@ const DEFAULT_FILE: &str = "rule.txt";
 
 /// A file that cannot be read counts as empty.
 fn bytes_of(rt: &HostRuntime, file: &str) -> Vec<u8> {
-    match fs::read(rt, file) {
-        Ok(bytes) => bytes,
-        Err(_) => Vec::new(rt.alloc()),
-    }
+    fs::read(rt, file).unwrap_or_else(|_| Vec::new(rt.alloc()))
 }
 
 fn obey(rt: &HostRuntime, command: &str, file: &str) -> io::Result<()> {

@@ -1,23 +1,25 @@
 -- What the readers answer of a whole text is what is due for it. Assumes nothing.
 use Rattle.std.proofs.Common.{◌≡◌, ℕ, suc, ◌+◌, ◌<◌, ◌≤◌, true, List, [], ◌∷◌, ◌++◌, length, take, drop, set, Err, sym, refl, ap, ◌∙◌, subst, inl, inr, append_assoc, append-nil, arith, length-set}
-use Rattle.std.specs.List.{AllByRecursion}
+use Rattle.std.specs.List.{All}
 use Rattle.std.proofs.lemmas.List.{drop-set-lt, take_more_set}
 use Rattle.rule.specs.declared.refusal.Fault.{Fault}
 use Rattle.rule.specs.declared.refusal.Refusal.{Refusal}
 use Rattle.rule.specs.declared.refusal.Refusal.TheVariants.{NoToken, OutOfPlace, LongName, UndeclaredName, UnfitRows}
 use Rattle.rule.specs.Refusals.{number}
 use Rattle.rule.specs.declared.row.Row.{Row}
-use Rattle.text.specs.declared.token.Cursor.{Cursor}
+use Rattle.text.specs.declared.cursor.Cursor.{Cursor}
 use Rattle.text.specs.declared.span.Span.{Span}
-use Rattle.text.specs.declared.formula.Done.{Done}
+use Rattle.text.specs.declared.span.Counts.{Counts}
+use Rattle.text.specs.declared.laid.Done.{Done}
 use Rattle.text.specs.Tokens.{Tok, named, colon, constant, Pos, Next, Ended, Stuck, Lex, Item, token, nothing, finish, At}
 use Rattle.text.specs.Scanning.{pos_of}
 use Rattle.text.specs.Grammar.{Tree, truth, Spells, names, Text, Completes, Declared, Rows}
 use Rattle.text.specs.Texts as texts
 use Rattle.text.specs.Texts.{Misplaced, ManyRows, Wrong, Refused, Fine}
 use Rattle.text.specs.Begun.{spell, Part, spell_part, Begun, part, whole, spell_begun, ended_in, Alive, Dead, put}
-use Rattle.text.specs.Faults.{fault}
+use Rattle.rule.specs.Faults.{fault}
 use Rattle.text.specs.Readers.{Good, Missing, no_token, early_end, unwanted, Why, missing, long_name, undeclared, many_rows, Broken, Formed, Admitted, Follows, begin, HeadWhy, cut_off, unfit_name, HeadBroken, HeadRead, EndTold, Told, TextRead}
+use Rattle.text.proofs.Each.{each_at}
 use Rattle.text.proofs.OneReading.{lex_append}
 use Rattle.text.proofs.Spelling.{one_zero, head_of, tail_of, same, names_same, no_colon, names_alone, begun_alive, unfinished}
 use Rattle.text.proofs.Counting.{spells_spell, spell_of, rows_ended, rows_ended_before, ended_begun}
@@ -138,17 +140,13 @@ head_told text e h = head_why text h.hs h.fine h.stop h.read e h.why
 
 -- the formula
 
-every_at_split : (P : Tok → Type 0) (us : List Tok) (t : Tok) (vs ws : List Tok) → AllByRecursion P ws → ws ≡ us ++ (t ∷ vs) → P t
-every_at_split P [] t vs ws all e = (subst (AllByRecursion P) e all).0
-every_at_split P (u ∷ us) t vs ws all e = every_at_split P us t vs (us ++ (t ∷ vs)) (subst (AllByRecursion P) e all).1 refl
-
 hopeless_body : (hs : List (List ℕ)) (ts : List Tok) → Dead ts → Completes (names hs ++ (colon ∷ ts)) → ⊥
 hopeless_body hs ts dead c =
     let i = names_same hs c.1 (ts ++ c.0) (spell c.2) (sym (append_assoc (names hs) (colon ∷ ts) c.0) ∙ text_spell c.3) in
     dead c.0 [] c.2 (i.1 ∙ sym (append-nil (spell c.2)))
 
 -- what is read so far: the header and the tokens `body` of a formula, and then reading stands at `stop`
-module _ (text : List ℕ) (hs : List (List ℕ)) (fine : Fine hs) (some : 0 < length hs) (body : List Tok) (stop : Pos) (read : Lex (begin text) (names hs ++ (colon ∷ body)) stop) (good : AllByRecursion (Good hs) body) (alive : Alive body) (few : rows_ended body ≤ 64) where
+module _ (text : List ℕ) (hs : List (List ℕ)) (fine : Fine hs) (some : 0 < length hs) (body : List Tok) (stop : Pos) (read : Lex (begin text) (names hs ++ (colon ∷ body)) stop) (good : All (Good hs) body) (alive : Alive body) (few : rows_ended body ≤ 64) where
   so_far : List Tok
   so_far = names hs ++ (colon ∷ body)
 
@@ -157,7 +155,7 @@ module _ (text : List ℕ) (hs : List (List ℕ)) (fine : Fine hs) (some : 0 < l
   one_on t = append_assoc (names hs) (colon ∷ body) (t ∷ [])
 
   declared : (x : List ℕ) (us vs : List Tok) → body ≡ us ++ (named x ∷ vs) → (i : ℕ) × Declared hs x i
-  declared x us vs e = (every_at_split (Good hs) us (named x) vs body good e).1
+  declared x us vs e = (each_at (Good hs) us (named x) vs (subst (All (Good hs)) e good)).1
 
   at_body : (it : Item) (place n : ℕ) → At stop it place → Wrong so_far it n → ((m : ℕ) → Wrong so_far it m → n ≤ m) → Refused text n place
   unfolding so_far
@@ -242,14 +240,14 @@ after_head {text} {from} h ts q l = lex_append (begin text) h.last q (names h.he
 some_names : {text : List ℕ} {old new : List Span} {n : ℕ} {from : Cursor} (h : HeadRead text old new n from) → 0 < length h.headed.hs
 some_names h = let a = h.some in let b = h.headed.count in omega arith
 
-pub formula_told : (text : List ℕ) (old new : List Span) (n : ℕ) (from : Cursor) (h : HeadRead text old new n from) (e : Fault) → Broken h.headed.hs 64 0 [] (pos_of from) e → Told text e
-formula_told text old new n from h e r =
+pub formula_told : {text : List ℕ} {old new : List Span} {n : ℕ} {from : Cursor} (h : HeadRead text old new n from) (e : Fault) → Broken h.headed.hs 64 0 [] (pos_of from) e → Told text e
+formula_told {text} h e r =
     let room = r.room in
     let counted = ap rows_ended r.spelled ∙ ended_begun (part r.begun) in
     formula_why text h.headed.hs h.headed.fine (some_names h) r.toks r.stop (after_head h r.toks r.stop r.read) r.good (subst Alive (sym r.spelled) (begun_alive (part r.begun))) (omega arith) e r.begun r.spelled r.why
 
-pub whole_told : (text : List ℕ) (old new : List Span) (n : ℕ) (from : Cursor) (h : HeadRead text old new n from) (s s' : List Row) (d : Done) (r : Formed h.headed.hs [] (pos_of from) s 0 d s') → length s ≡ 64 → (e : Fault) → EndTold d.after (Err e) → Told text e
-whole_told text old new n from h s s' d r cap e w =
+pub whole_told : {text : List ℕ} {old new : List Span} {n : ℕ} {from : Cursor} (h : HeadRead text old new n from) {s s' : List Row} {d : Done} {m : ℕ} (r : Formed h.headed.hs [] (pos_of from) s 0 d s' m) → length s ≡ 64 → (e : Fault) → EndTold d.after (Err e) → Told text e
+whole_told {text} h {d} r cap e w =
     let a = r.filled in
     let b = r.sized in
     let c = r.fits in
@@ -273,12 +271,12 @@ drop_put s k (r ∷ rs) =
     let e : k + suc (length rs) ≡ k + 1 + length rs = omega arith in
     ap (λ n. drop n (put (set s k r) (k + 1) rs)) e ∙ drop_put (set s k r) (k + 1) rs ∙ drop-set-lt (k + 1 + length rs) s k r (omega arith) ∙ ap (λ n. drop n s) (sym e)
 
-pub text_read : (text : List ℕ) (old new : List Span) (n : ℕ) (from : Cursor) (h : HeadRead text old new n from) (s s' : List Row) (d : Done) (r : Formed h.headed.hs [] (pos_of from) s 0 d s') → length s ≡ 64 → length old ≡ 16 → (place : ℕ) → Ended (pos_of d.after) place → TextRead text s s' old new (record { names = n; rows = d.filled })
-text_read text old new n from h s s' d r cap_rows cap_names place w =
+pub text_read : {text : List ℕ} {old new : List Span} {n : ℕ} {from : Cursor} (h : HeadRead text old new n from) {s s' : List Row} {d : Done} {m : ℕ} (r : Formed h.headed.hs [] (pos_of from) s 0 d s' m) → length s ≡ 64 → length old ≡ 16 → (place : ℕ) → Ended (pos_of d.after) place → TextRead text s s' old new (record { names = n; rows = m })
+text_read {n} h {s} {s'} {d} {m} r cap_rows cap_names place w =
     let f = h.headed in
-    let many : d.filled ≡ 0 + length r.rows = r.filled in
+    let many : m ≡ 0 + length r.rows = r.filled in
     let fits = r.fits in
-    let laid : take d.filled s' ≡ r.rows = ap (take d.filled) r.strip ∙ ap (λ k. take k (put s 0 r.rows)) many ∙ take_put s 0 r.rows (omega arith) in
+    let laid : take m s' ≡ r.rows = ap (take m) r.strip ∙ ap (λ k. take k (put s 0 r.rows)) many ∙ take_put s 0 r.rows (omega arith) in
     let few = f.fine.few in
     let count = f.count in
     let long = f.long in
@@ -295,6 +293,10 @@ text_read text old new n from h s s' d r cap_rows cap_names place w =
         few_rows = subst (λ l. length l ≤ 64) (sym laid) (omega arith);
         spanned = f.spanned;
       };
-      rows_filled = record { at_most = omega arith; same_length = ap length r.strip ∙ length_put s 0 r.rows; others_kept = ap (drop d.filled) r.strip ∙ ap (λ k. drop k (put s 0 r.rows)) many ∙ drop_put s 0 r.rows ∙ ap (λ k. drop k s) (sym many) };
+      rows_filled = record { at_most = omega arith; same_length = ap length r.strip ∙ length_put s 0 r.rows; others_kept = ap (drop m) r.strip ∙ ap (λ k. drop k (put s 0 r.rows)) many ∙ drop_put s 0 r.rows ∙ ap (λ k. drop k s) (sym many) };
       names_filled = record { at_most = omega arith; same_length = omega arith; others_kept = f.kept };
     }
+
+-- the strip that was lent holds the rows that were laid in it
+pub read_rows : {text : List ℕ} {rows rows' lent : List Row} {spans spans' : List Span} {c : Counts} → lent ≡ rows' → TextRead text rows rows' spans spans' c → TextRead text rows lent spans spans' c
+read_rows {text} {rows} {spans} {spans'} {c} e r = subst (λ z. TextRead text rows z spans spans' c) (sym e) r

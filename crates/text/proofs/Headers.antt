@@ -1,44 +1,33 @@
 -- What the reader of headers answers, name by name. Assumes nothing.
-use Rattle.std.proofs.Common.{◌≡◌, ℕ, zero, suc, ◌+◌, ◌-◌, ◌<◌, ◌≤◌, List, [], ◌∷◌, ◌++◌, length, get_or, take, drop, set, Err, sym, refl, ap, ◌∙◌, subst, ⊎_elim, arith, length-append, length-set}
+use Rattle.std.proofs.Common.{◌≡◌, ℕ, ◌+◌, ◌<◌, ◌≤◌, List, [], ◌∷◌, ◌++◌, length, get_or, take, drop, set, Some, None, Err, Option, MatchOption, ◌≢◌, sym, refl, ap, ◌∙◌, subst, ⊎_elim, arith, length-append, length-set}
 use lib.Seq.{take-append-le}
-use Rattle.std.specs.List.{AllByRecursion}
-use Rattle.std.proofs.slice.Lists.{all_by_recursion_push}
+use Rattle.std.specs.List.{All, AllWithin, HoldsAt}
+use Rattle.std.proofs.lemmas.List.Elements.{All-push}
 use Rattle.std.proofs.str.Laws.{order}
-use Rattle.std.proofs.lemmas.List.{take_at, drop_at, drop-drop, drop-set-lt, take_more_set, get_or_push, get_or_append_left}
+use Rattle.std.proofs.lemmas.List.{map-append, length-map, get_or-map, take_at, drop_at, drop-drop, drop-set-lt, take_more_set, get_or_push, get_or_append_left}
 use Rattle.rule.specs.declared.refusal.Fault.{Fault}
 use Rattle.text.specs.declared.span.Span.{Span}
 use Rattle.text.specs.Tokens.{named, Pos, Next, Lex, token, Stands}
 use Rattle.text.specs.Grammar.{names, Declared}
 use Rattle.text.specs.Texts.{Fine, no_span, Spanned}
-use Rattle.text.specs.Readers.{Missing, name_at, names_in, Admitted, begin, Follows, cut_off, unfit_name, HeadBroken, Headed}
+use Rattle.text.specs.Readers.{Missing, name_at, names_in, SoughtIn, Admitted, begin, Follows, cut_off, unfit_name, HeadBroken, Headed}
 use Rattle.text.proofs.OneReading.{lex_append}
 use Rattle.text.proofs.Formulas.{lex_upto, step_onto, missing_as}
 
-pub every_at : {X : Type 0} (P : X → Type 0) (xs : List X) (i : ℕ) (d : X) → AllByRecursion P xs → i < length xs → P (get_or xs i d)
-every_at P [] i d e h = absurd (omega arith)
-every_at P (x ∷ xs) zero d e h = e.0
-every_at P (x ∷ xs) (suc i) d e h = every_at P xs i d e.1 (omega arith)
-
-pub names_length : (text : List ℕ) (ns : List Span) → length (names_in text ns) ≡ length ns
-names_length text [] = refl
-names_length text (n ∷ ns) = ap suc (names_length text ns)
-
-pub names_at : (text : List ℕ) (ns : List Span) (i : ℕ) (d : Span) → i < length ns → get_or (names_in text ns) i [] ≡ name_at text (get_or ns i d)
-names_at text [] i d h = absurd (omega arith)
-names_at text (n ∷ ns) zero d h = refl
-names_at text (n ∷ ns) (suc i) d h = names_at text ns i d (omega arith)
-
--- a part of a slice from its start
-pub part_all : {X : Type 0} (n : ℕ) (xs : List X) → take (n - 0) (drop 0 xs) ≡ take n xs
-part_all n xs = ap (λ k. take k xs) (let z : n - 0 ≡ n = omega arith in z)
+-- the first name that is the one sought
+pub sought : (text : List ℕ) (ns : List Span) (x : List ℕ) (r : Option ℕ) → MatchOption r (AllWithin (λ n. name_at text n ≢ x) ns 0 (length ns)) (λ i. (i < length ns) × HoldsAt (λ n. name_at text n ≡ x) ns i × AllWithin (λ n. name_at text n ≢ x) ns 0 i) → SoughtIn (names_in text ns) x r
+sought text ns x (Some i) h =
+    let long = length-map ns (name_at text) in
+    (omega (arith, h.0), get_or-map (name_at text) ns i no_span [] h.0 ∙ h.1 no_span)
+sought text ns x None h =
+    let long = length-map ns (name_at text) in
+    λ i d.
+    let lt : i < length ns = omega (arith, d.0) in
+    h i no_span (omega arith) lt (sym (get_or-map (name_at text) ns i no_span [] lt) ∙ d.1)
 
 pub names_snoc : (hs : List (List ℕ)) (x : List ℕ) → names (hs ++ (x ∷ [])) ≡ names hs ++ (named x ∷ [])
 names_snoc [] x = refl
 names_snoc (h ∷ hs) x = ap (λ l. named h ∷ l) (names_snoc hs x)
-
-in_snoc : (text : List ℕ) (ns : List Span) (r : Span) → names_in text (ns ++ (r ∷ [])) ≡ names_in text ns ++ (name_at text r ∷ [])
-in_snoc text [] r = refl
-in_snoc text (n ∷ ns) r = ap (λ l. name_at text n ∷ l) (in_snoc text ns r)
 
 -- a name's bytes stand in the text at its place
 stands_in : (text : List ℕ) (p q : Pos) (x : List ℕ) (place : ℕ) → p.rest ≡ drop p.at text → Next p (named x) place q → drop place text ≡ x ++ q.rest
@@ -85,20 +74,6 @@ module _ (text : List ℕ) (hs : List (List ℕ)) (x : List ℕ) (spans : List S
             (ap (λ (s : Span). s.len) span_new ∙ ln ∙ ap length (sym name_new));
       }
 
-pub at_start : (text : List ℕ) (old : List Span) → length old ≡ 16 → Headed text old old 0 (begin text)
-at_start text old h = record {
-  hs = [];
-  fine = record { few = omega arith; short = tt; apart = λ i j a b e. omega arith };
-  read = refl;
-  count = refl;
-  names_are = refl;
-  inside = tt;
-  spanned = record { as_many = refl; starts = λ i lt. absurd (omega arith); lengths = λ i lt. absurd (omega arith) };
-  kept = refl;
-  here = refl;
-  long = h;
-}
-
 pub one_more : (text : List ℕ) (old new : List Span) (n : ℕ) (p q : Pos) (x : List ℕ) (place : ℕ) → (f : Headed text old new n p) → Next p (named x) place q → length x ≤ 12 → ((i : ℕ) → Declared f.hs x i → ⊥) → (length f.hs ≡ 16 → ⊥) → Headed text old (set new n (record { start = place; len = length x })) (n + 1) q
 one_more text old new n p q x place f s short no' room =
     let r : Span = record { start = place; len = length x } in
@@ -117,11 +92,11 @@ one_more text old new n p q x place f s short no' room =
     let dr : drop (n + 1) new ≡ drop (n + 1) old = sym (drop-drop 1 n new) ∙ ap (λ l. drop 1 l) f.kept ∙ drop-drop 1 n old in
     record {
       hs = f.hs ++ (x ∷ []);
-      fine = record { few = omega arith; short = all_by_recursion_push (λ y. length y ≤ 12) f.hs x f.fine.short short; apart = apart_snoc f.hs x f.fine no' };
+      fine = record { few = omega arith; short = All-push (λ y. length y ≤ 12) f.hs x f.fine.short short; apart = apart_snoc f.hs x f.fine no' };
       read = subst (λ l. Lex (begin text) l q) (sym (names_snoc f.hs x)) (lex_append (begin text) p q (names f.hs) _ f.read (place, q, s, refl));
       count = omega arith;
-      names_are = ap (names_in text) tk ∙ in_snoc text (take n new) r ∙ ap (λ l. l ++ (name_at text r ∷ [])) f.names_are ∙ ap (λ l. f.hs ++ (l ∷ [])) (ap (take (length x)) st ∙ take_at x q.rest _ refl);
-      inside = subst (AllByRecursion (λ y. y.start + y.len ≤ length text)) (sym tk) (all_by_recursion_push (λ y. y.start + y.len ≤ length text) (take n new) r f.inside (omega arith));
+      names_are = ap (names_in text) tk ∙ map-append (name_at text) (take n new) (r ∷ []) ∙ ap (λ l. l ++ (name_at text r ∷ [])) f.names_are ∙ ap (λ l. f.hs ++ (l ∷ [])) (ap (take (length x)) st ∙ take_at x q.rest _ refl);
+      inside = subst (All (λ y. y.start + y.len ≤ length text)) (sym tk) (All-push (λ y. y.start + y.len ≤ length text) (take n new) r f.inside (omega arith));
       spanned = subst (Spanned text (f.hs ++ (x ∷ []))) (sym tk) (spanned_snoc text f.hs x (take n new) r f.spanned (record { after = p; read = f.read; here = (q, s) }) refl);
       kept = drop-set-lt (n + 1) new n r (omega arith) ∙ dr;
       here = sym (ap (λ m. drop m text) onw ∙ sym (drop-drop (length x) place text) ∙ ap (drop (length x)) st ∙ drop_at x q.rest _ refl);

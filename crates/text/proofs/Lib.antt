@@ -1,6 +1,6 @@
+pub mod Each
 pub mod Fronts
 pub mod Naming
-pub mod Scans
 pub mod OneReading
 pub mod Spelling
 pub mod Formulas

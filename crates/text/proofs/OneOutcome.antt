@@ -1,8 +1,8 @@
 -- At most one outcome is due for a text. Assumes nothing.
 use Rattle.std.proofs.Common.{◌≡◌, ℕ, ◌+◌, ◌-◌, ◌<◌, ◌≤◌, true, List, [], ◌∷◌, ◌++◌, length, get_or, sym, refl, ap, ◌∙◌, subst, inl, inr, append_assoc, append-nil, arith, length-append}
-use Rattle.std.specs.List.{AllByRecursion}
+use Rattle.std.specs.List.{All}
 use Rattle.std.proofs.lemmas.List.{get_or_at, get_or_append_left, ext_get_or}
-use Rattle.std.proofs.ByRecursion.{All-get_or, All-append}
+use Rattle.std.proofs.lemmas.List.Elements.{All-head, All-tail, All-cons, All-append}
 use Rattle.rule.specs.declared.row.Row.{Row}
 use Rattle.rule.specs.declared.row.Row.TheVariants.{Signal, Unary}
 use Rattle.text.specs.declared.span.Span.{Span}
@@ -10,6 +10,7 @@ use Rattle.text.specs.Tokens.{Tok, named, colon, opens, closes, constant, unary,
 use Rattle.text.specs.Grammar.{Tree, truth, name, under, pair, Spells, names, Text, Declared, Rows}
 use Rattle.text.specs.Begun.{spell, size, whole}
 use Rattle.text.specs.Texts.{Wrong, no_token, out_of_place, long_name, repeated_name, many_names, undeclared_name, many_rows, Refused, Fine, no_span, Spanned, Readable, Outcome, Due, short_strip, long_text, faulty, readable}
+use Rattle.text.proofs.Each.{each_one, each_at}
 use Rattle.text.proofs.OneReading.{stands_same, Further, stands_compare}
 use Rattle.text.proofs.Spelling.{one_zero, head_of, tail_of, same, names_same}
 use Rattle.text.proofs.Counting.{spells_spell, spell_of, rows_ended, rows_ended_before, ended_more, ended_begun}
@@ -26,11 +27,11 @@ header_front (g ∷ gs) (h ∷ hs) x body ys e =
     (i.0, cc)
 
 -- what holds of each name of the header and of the body
-each_name : (P : List ℕ → Type 0) (header : List (List ℕ)) (x : List ℕ) (body xs ys : List Tok) → AllByRecursion P header → ((us vs : List Tok) → body ≡ us ++ (named x ∷ vs) → P x) → names header ++ (colon ∷ body) ≡ xs ++ (named x ∷ ys) → P x
+each_name : (P : List ℕ → Type 0) (header : List (List ℕ)) (x : List ℕ) (body xs ys : List Tok) → All P header → ((us vs : List Tok) → body ≡ us ++ (named x ∷ vs) → P x) → names header ++ (colon ∷ body) ≡ xs ++ (named x ∷ ys) → P x
 each_name P [] x body [] ys all inside e = one_zero (cc)
 each_name P [] x body (t ∷ xs) ys all inside e = inside xs ys (tail_of _ _ _ _ e)
-each_name P (h ∷ hs) x body [] ys all inside e = let n : named h ≡ named x = head_of _ _ _ _ e in subst P (cc) all.0
-each_name P (h ∷ hs) x body (t ∷ xs) ys all inside e = each_name P hs x body xs ys all.1 inside (tail_of _ _ _ _ e)
+each_name P (h ∷ hs) x body [] ys all inside e = let n : named h ≡ named x = head_of _ _ _ _ e in subst P (cc) (All-head P h hs all)
+each_name P (h ∷ hs) x body (t ∷ xs) ys all inside e = each_name P hs x body xs ys (All-tail P h hs all) inside (tail_of _ _ _ _ e)
 
 -- no refusal holds of a token of a header, a colon and the beginning of a formula within the limits
 module _ (header : List (List ℕ)) (fine : Fine header) (some : 0 < length header) (body more : List Tok) (f : Tree) (spelled : body ++ more ≡ spell f) (declared : (x : List ℕ) (us vs : List Tok) → body ≡ us ++ (named x ∷ vs) → (i : ℕ) × Declared header x i) (few : rows_ended body ≤ 64) (xs : List Tok) (t : Tok) (ys : List Tok) (split : names header ++ (colon ∷ body) ≡ xs ++ (t ∷ ys)) where
@@ -56,7 +57,7 @@ module _ (header : List (List ℕ)) (fine : Fine header) (some : 0 < length head
     },
   )
   clean_body m (long_name x n e over) =
-      let short : length x ≤ 12 = each_name (λ y. length y ≤ 12) header x body xs ys fine.short (λ us vs b. let d = declared x us vs b in subst (λ y. length y ≤ 12) d.1.1 (All-get_or (λ y. length y ≤ 12) header d.0 [] d.1.0 fine.short)) (at_name x e) in
+      let short : length x ≤ 12 = each_name (λ y. length y ≤ 12) header x body xs ys fine.short (λ us vs b. let d = declared x us vs b in subst (λ y. length y ≤ 12) d.1.1 (fine.short d.0 [] d.1.0)) (at_name x e) in
       omega arith
   clean_body m (repeated_name x hs i n e e' d) =
       let b = before_name x hs e e' in
@@ -96,10 +97,6 @@ Known header (constant b) = Unit {0}
 Known header (unary o) = Unit {0}
 Known header (binary o) = Unit {0}
 
-known_at : (header : List (List ℕ)) (us : List Tok) (t : Tok) (vs : List Tok) → AllByRecursion (Known header) (us ++ (t ∷ vs)) → Known header t
-known_at header [] t vs all = all.0
-known_at header (u ∷ us) t vs all = known_at header us t vs all.1
-
 apart_same : (header : List (List ℕ)) → Fine header → (x : List ℕ) (i j : ℕ) → Declared header x i → Declared header x j → i ≡ j
 apart_same header fine x i j a b =
     let before : i < j → ⊥ = λ l. fine.apart i j l b.0 (a.1 ∙ sym b.1) in
@@ -107,11 +104,14 @@ apart_same header fine x i j a b =
     omega arith
 
 module _ (header : List (List ℕ)) where
-  rows_known : (f : Tree) (k : ℕ) (rows : List Row) → Rows header k f rows → AllByRecursion (Known header) (spell f)
-  rows_known (truth b) k rows r = (tt, tt)
-  rows_known (name x) k rows r = ((r.0, r.1), tt)
-  rows_known (under o a) k rows r = (tt, rows_known a k r.0 r.1)
-  rows_known (pair o a b) k rows r = (tt, All-append (Known header) (spell a) _ (rows_known a k r.0 r.2) (tt, All-append (Known header) (spell b) _ (rows_known b _ r.1 r.3) (tt, tt)))
+  rows_known : (f : Tree) (k : ℕ) (rows : List Row) → Rows header k f rows → All (Known header) (spell f)
+  rows_known (truth b) k rows r = each_one (Known header) (constant b) tt
+  rows_known (name x) k rows r = each_one (Known header) (named x) (r.0, r.1)
+  rows_known (under o a) k rows r = All-cons (Known header) (unary o) (spell a) tt (rows_known a k r.0 r.1)
+  rows_known (pair o a b) k rows r =
+      let closed = All-append (Known header) (spell b) (closes ∷ []) (rows_known b _ r.1 r.3) (each_one (Known header) closes tt) in
+      let joined = All-cons (Known header) (binary o) (spell b ++ (closes ∷ [])) tt closed in
+      All-cons (Known header) opens _ tt (All-append (Known header) (spell a) _ (rows_known a k r.0 r.2) joined)
 
   rows_length : (f : Tree) (k : ℕ) (rows : List Row) → Rows header k f rows → length rows ≡ size f
   rows_length (truth b) k rows r = ap length r
@@ -163,7 +163,7 @@ readable_not_refused {rows} {n} r q =
       | inl e ↦ clean_end x (wrong_alike e (stands_alike e q.stands r.whole).0 q.wrong)
       | inr (inl g) ↦
           clean_body r.header r.fine x.some_names x.body [] r.tree (append-nil _ ∙ spelled)
-          (λ y us vs e. known_at r.header us (named y) vs (subst (AllByRecursion (Known r.header)) (sym spelled ∙ e) known))
+          (λ y us vs e. each_at (Known r.header) us (named y) vs (subst (All (Known r.header)) (sym spelled ∙ e) known))
           (omega arith) q.before g.0 g.1 (sym x.split ∙ g.2) n (wrong_alike refl g.3 q.wrong)
       | inr (inr g) ↦ no_more g.3
     ]

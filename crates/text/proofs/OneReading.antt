@@ -1,29 +1,31 @@
 -- A text is read in one way: its bytes settle each token, its place, and what comes after it. Assumes nothing.
-use Rattle.std.proofs.Common.{◌≡◌, ℕ, ◌+◌, ◌<◌, Bool, true, false, cond, T, eqb, ◌⊎◌, List, [], ◌∷◌, ◌++◌, length, get_or, sym, refl, ap, ◌∙◌, subst, inl, inr, append-nil, arith}
-use Rattle.std.specs.List.{AllByRecursion}
+use Rattle.std.proofs.Common.{◌≡◌, ℕ, ◌+◌, ◌<◌, Bool, true, false, cond, IsTrue, IsFalse, eqb, ◌⊎◌, List, [], ◌∷◌, ◌++◌, length, get_or, sym, refl, ap, ◌∙◌, subst, inl, inr, append-nil, arith}
+use Rattle.std.specs.List.{AllPass}
 use Rattle.std.proofs.lemmas.List.{append_cancel_left}
+use Rattle.std.proofs.lemmas.List.Elements.{All-head, All-tail}
 use Rattle.std.proofs.lemmas.Bool.Decides.{nat_tests}
 use Rattle.rule.specs.declared.operator.UnaryOperator.TheVariants.{Not, Yesterday, WeakYesterday, Once, Historically}
 use Rattle.rule.specs.declared.operator.BinaryOperator.TheVariants.{And, Or, Implies, Iff, Xor, Since, WeakSince}
 use Rattle.text.specs.Tokens.{Tok, named, colon, opens, closes, constant, unary, binary, bytes_of, blank, lower, name_byte, Stops, Whole, Begins, Blanks, Solid, Pos, Next, Ended, Stuck, Lex, Item, token, nothing, finish, At, Stands}
 
-passed : {A : Type 0} (b : Bool) (x y : A) → T b → cond b x y ≡ x
-passed true x y h = refl
-passed false x y h = absurd h
+passed : {A : Type 0} (b : Bool) (x y : A) → IsTrue b → cond b x y ≡ x
+passed b x y h = rw h
 
-failed : {A : Type 0} (b : Bool) (x y : A) → (T b → ⊥) → cond b x y ≡ y
-failed true x y h = absurd (h tt)
-failed false x y h = refl
+failed : {A : Type 0} (b : Bool) (x y : A) → IsFalse b → cond b x y ≡ y
+failed b x y h = rw h
+
+not_both : {A : Type 0} (b : Bool) → IsTrue b → IsFalse b → A
+not_both b h k = absurd (let e : true ≡ false = sym h ∙ k in cc)
 
 -- the name bytes that come first
 abbrev front : List ℕ → List ℕ
 front [] = []
 front (b ∷ s) = cond (name_byte b) (b ∷ front s) []
 
-front_is : (x left : List ℕ) → AllByRecursion (λ b. T (name_byte b)) x → Stops left → front (x ++ left) ≡ x
+front_is : (x left : List ℕ) → AllPass name_byte x → Stops left → front (x ++ left) ≡ x
 front_is [] [] all stops = refl
 front_is [] (b ∷ left) all stops = failed (name_byte b) _ _ stops
-front_is (b ∷ x) left all stops = passed (name_byte b) _ _ all.0 ∙ ap (λ l. b ∷ l) (front_is x left all.1 stops)
+front_is (b ∷ x) left all stops = passed (name_byte b) _ _ (All-head (λ c. name_byte c ≡ true) b x all) ∙ ap (λ l. b ∷ l) (front_is x left (All-tail (λ c. name_byte c ≡ true) b x all) stops)
 
 -- the first of the tokens that begins with the byte b, and a colon if none does
 abbrev pick : ℕ → List Tok → Tok
@@ -37,30 +39,30 @@ scan (b ∷ s) = cond (lower b) (named (b ∷ front s)) (pick b (
     opens ∷ closes ∷ constant true ∷ constant false ∷ unary Not ∷ unary Yesterday ∷ unary WeakYesterday ∷ unary Once ∷ unary Historically
     ∷ binary And ∷ binary Or ∷ binary Implies ∷ binary Iff ∷ binary Xor ∷ binary Since ∷ binary WeakSince ∷ []))
 
-lower_solid : (b : ℕ) → T (lower b) → T (blank b) → ⊥
-lower_solid b l h = grind (arith, nat_tests)
+lower_solid : (b : ℕ) → IsTrue (lower b) → IsFalse (blank b)
+lower_solid b l = grind (arith, nat_tests)
 
 -- a token is what `scan` finds, and does not begin with a blank: two facts by the same cases
 scan_is : (t : Tok) (left : List ℕ) → Whole t left → (scan (bytes_of t ++ left) ≡ t) × Solid (bytes_of t ++ left)
 scan_is (named []) left w = absurd w.0
 scan_is (named (b ∷ x)) left w = (passed (lower b) _ _ w.0.0 ∙ ap (λ l. named (b ∷ l)) (front_is x left w.0.1 w.1), lower_solid b w.0.0)
-scan_is colon left w = (refl, λ h. h)
-scan_is opens left w = (refl, λ h. h)
-scan_is closes left w = (refl, λ h. h)
-scan_is (constant true) left w = (refl, λ h. h)
-scan_is (constant false) left w = (refl, λ h. h)
-scan_is (unary Not) left w = (refl, λ h. h)
-scan_is (unary Yesterday) left w = (refl, λ h. h)
-scan_is (unary WeakYesterday) left w = (refl, λ h. h)
-scan_is (unary Once) left w = (refl, λ h. h)
-scan_is (unary Historically) left w = (refl, λ h. h)
-scan_is (binary And) left w = (refl, λ h. h)
-scan_is (binary Or) left w = (refl, λ h. h)
-scan_is (binary Implies) left w = (refl, λ h. h)
-scan_is (binary Iff) left w = (refl, λ h. h)
-scan_is (binary Xor) left w = (refl, λ h. h)
-scan_is (binary Since) left w = (refl, λ h. h)
-scan_is (binary WeakSince) left w = (refl, λ h. h)
+scan_is colon left w = (refl, refl)
+scan_is opens left w = (refl, refl)
+scan_is closes left w = (refl, refl)
+scan_is (constant true) left w = (refl, refl)
+scan_is (constant false) left w = (refl, refl)
+scan_is (unary Not) left w = (refl, refl)
+scan_is (unary Yesterday) left w = (refl, refl)
+scan_is (unary WeakYesterday) left w = (refl, refl)
+scan_is (unary Once) left w = (refl, refl)
+scan_is (unary Historically) left w = (refl, refl)
+scan_is (binary And) left w = (refl, refl)
+scan_is (binary Or) left w = (refl, refl)
+scan_is (binary Implies) left w = (refl, refl)
+scan_is (binary Iff) left w = (refl, refl)
+scan_is (binary Xor) left w = (refl, refl)
+scan_is (binary Since) left w = (refl, refl)
+scan_is (binary WeakSince) left w = (refl, refl)
 
 -- no token is empty
 whole_alone : (t : Tok) (left : List ℕ) → Whole t left → Whole t []
@@ -91,17 +93,17 @@ begins_solid {t} {x} b = subst Solid (sym b.split) (scan_is t x b.whole).1
 -- blanks end where the first other byte stands
 pub gap_same : (g h a b : List ℕ) → Blanks g → Blanks h → Solid a → Solid b → g ++ a ≡ h ++ b → (g ≡ h) × (a ≡ b)
 gap_same [] [] a b bg bh sa sb e = (refl, e)
-gap_same [] (d ∷ h) a b bg bh sa sb e = absurd (subst Solid e sa bh.0)
-gap_same (c ∷ g) [] a b bg bh sa sb e = absurd (subst Solid (sym e) sb bg.0)
+gap_same [] (d ∷ h) a b bg bh sa sb e = not_both (blank d) (All-head (λ c. blank c ≡ true) d h bh) (subst Solid e sa)
+gap_same (c ∷ g) [] a b bg bh sa sb e = not_both (blank c) (All-head (λ c. blank c ≡ true) c g bg) (subst Solid (sym e) sb)
 gap_same (c ∷ g) (d ∷ h) a b bg bh sa sb e =
-    let r = gap_same g h a b bg.1 bh.1 sa sb (cc) in
+    let r = gap_same g h a b (All-tail (λ c. blank c ≡ true) c g bg) (All-tail (λ c. blank c ≡ true) d h bh) sa sb (cc) in
     let f = r.0 in
     (cc, r.1)
 
 blanks_not_solid : (g s : List ℕ) → Blanks (g ++ s) → Solid s → ⊥
 blanks_not_solid [] [] b h = h
-blanks_not_solid [] (c ∷ s) b h = h b.0
-blanks_not_solid (c ∷ g) s b h = blanks_not_solid g s b.1 h
+blanks_not_solid [] (c ∷ s) b h = not_both (blank c) (All-head (λ c. blank c ≡ true) c s b) h
+blanks_not_solid (c ∷ g) s b h = blanks_not_solid g s (All-tail (λ c. blank c ≡ true) c (g ++ s) b) h
 
 -- after some blanks the bytes `here` stand at `place`: what a token and bytes that no token begins share
 record Lands (p : Pos) (here : List ℕ) (place : ℕ) : Type 0 where
@@ -170,11 +172,6 @@ lex_split p q (t ∷ ts) us x =
 
 pub stands_same : {text : List ℕ} {ts : List Tok} {a b : Item} {m n : ℕ} → Stands text ts a m → Stands text ts b n → (a ≡ b) × (m ≡ n)
 stands_same {ts} {a} {b} {m} {n} x y = item_same y.after a b m n (subst (λ p. At p a m) (lex_same _ x.after y.after ts x.read y.read) x.here) y.here
-
-pub stands_at : {text : List ℕ} (xs : List Tok) (t : Tok) (ys : List Tok) {it : Item} {m : ℕ} → Stands text (xs ++ (t ∷ ys)) it m → (n : ℕ) × Stands text xs (token t) n
-stands_at xs t ys x =
-    let s = lex_split _ x.after xs (t ∷ ys) x.read in
-    (s.2.0, record { after = s.0; read = s.1; here = (s.2.1, s.2.2) })
 
 -- us is ts and more, and the item a is the first token of what is more
 abbrev pub Further : List Tok → Item → List Tok → Type 0

@@ -1,26 +1,14 @@
 -- What reading leaves in the lent strips. Assumes nothing.
-use Rattle.std.proofs.Common.{◌≡◌, ℕ, ◌<◌, ◌≤◌, min, List, ◌++◌, length, get_or, take, drop, Ok, Err, Result, sym, refl, ap, ◌∙◌, subst, ⊎_elim, arith, length-append, length-drop, length-take-le}
+use Rattle.std.proofs.Common.{◌≡◌, ℕ, ◌≤◌, List, ◌++◌, length, take, drop, Ok, Err, Result, sym, refl, ap, ◌∙◌, subst, arith, length-append, length-drop, length-take-le}
 use lib.Seq.{take-append-le, drop-append-le, drop-append_seam}
-use Rattle.std.proofs.str.Laws.{order}
-use Rattle.std.proofs.lemmas.List.{drop_all, get_or_past, take-append-drop}
+use Rattle.std.proofs.lemmas.List.{take-append-drop}
 use Rattle.rule.specs.declared.row.Row.{Row}
 use Rattle.rule.specs.declared.refusal.Fault.{Fault}
 use Rattle.text.specs.declared.span.Span.{Span}
 use Rattle.text.specs.declared.span.Counts.{Counts}
-use Rattle.text.specs.Texts.{faulty, readable, Filled, Cleared}
+use Rattle.text.specs.Texts.{faulty, readable, Filled}
 use Rattle.text.specs.Readers.{TextTold, Within, AttemptTold}
 use Rattle.text.proofs.OneOutcome.{due_same}
-
--- a loop that sets the places below i has cleared the first `most` of them
-pub all_cleared : {X : Type 0} (old new : List X) (v : X) (most i : ℕ) → length new ≡ length old → i ≡ min most (length old) → ((k : ℕ) → k < i → get_or new k v ≡ v) → drop i new ≡ drop i old → Cleared most v old new
-all_cleared old new v most i len is set_below kept = record {
-  same_length = len;
-  blank = λ k lt. ⊎_elim (λ h. set_below k h) (λ h. get_or_past new k v (omega arith)) (order k i);
-  others_kept = ⊎_elim
-      (λ h. let same : i ≡ most = omega arith in subst (λ n. drop n new ≡ drop n old) same kept)
-      (λ h. drop_all most new (omega arith) ∙ sym (drop_all most old h))
-      (order most (length old));
-}
 
 -- a strip whose first n places are the list `front`
 module _ {X : Type 0} (n : ℕ) (s front : List X) (long : n ≤ length s) (same : length front ≡ n) where
@@ -58,7 +46,3 @@ attempted text rows part_rows spans part_spans (Err e) enough_rows enough_names 
   only = λ o d. due_same d (faulty (record { for_rows = enough_rows; for_names = enough_names }) short t.due refl);
   left = (front_within 64 rows part_rows enough_rows rows_64, front_within 16 spans part_spans enough_names spans_16, t.no_sample);
 }
-
--- what a refused reading leaves once the places that it may fill are cleared
-pub then_cleared : {X : Type 0} {n : ℕ} {x : X} {old mid new : List X} → Cleared n x mid new → Within n old mid → Cleared n x old new
-then_cleared c w = record { same_length = c.same_length ∙ w.same_length; blank = c.blank; others_kept = c.others_kept ∙ w.others_kept }

@@ -2,6 +2,5 @@ pub mod Tokens
 pub mod Scanning
 pub mod Grammar
 pub mod Texts
-pub mod Faults
 pub mod Begun
 pub mod Readers

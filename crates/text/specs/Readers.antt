@@ -1,21 +1,22 @@
 -- What the readers inside the crate answer. Assumes nothing.
-use Rattle.std.specs.Prelude.{◌≡◌, ℕ, ◌+◌, ◌<◌, ◌≤◌, ◌⊎◌, List, [], ◌∷◌, ◌++◌, length, take, drop, Some, None, Ok, Err, Option, Result, MatchResult, ◌≢◌, slice_set}
-use Rattle.std.specs.List.{AllByRecursion}
+use Rattle.std.specs.Prelude.{◌≡◌, ℕ, ◌+◌, ◌-◌, ◌<◌, ◌≤◌, ◌⊎◌, List, [], ◌∷◌, ◌++◌, map, length, take, drop, Some, None, Ok, Err, Option, Result, MatchResult, ◌≢◌, slice_set}
+use Rattle.std.specs.List.{All}
 use Rattle.rule.specs.declared.operator.BinaryOperator.{BinaryOperator}
 use Rattle.rule.specs.declared.row.Row.{Row}
 use Rattle.rule.specs.declared.refusal.Fault.{Fault}
 use Rattle.rule.specs.Refusals.{number}
 use Rattle.rule.specs.declared.refusal.Refusal.TheVariants.{NoToken, OutOfPlace, LongName, RepeatedName, ManyNames, UndeclaredName, UnfitRows}
-use Rattle.text.specs.declared.token.Cursor.{Cursor}
+use Rattle.text.specs.declared.cursor.Cursor.{Cursor}
 use Rattle.text.specs.declared.span.Span.{Span}
 use Rattle.text.specs.declared.span.Counts.{Counts}
 use Rattle.text.specs.declared.header.Header.{Header}
-use Rattle.text.specs.declared.formula.Done.{Done}
+use Rattle.text.specs.declared.laid.Done.{Done}
+use Rattle.text.specs.declared.laid.Laid.{Laid}
 use Rattle.text.specs.Tokens.{Tok, named, colon, opens, closes, constant, unary, binary, Pos, Next, Ended, Stuck, Lex}
 use Rattle.text.specs.Scanning.{pos_of}
 use Rattle.text.specs.Grammar.{Tree, names, Declared, Rows}
 use Rattle.text.specs.Begun.{spell, size, Part, spell_part, ended, Begun, spell_begun, ended_in, Alive, Dead, put}
-use Rattle.text.specs.Faults.{fault}
+use Rattle.rule.specs.Faults.{fault}
 use Rattle.text.specs.Texts.{Fine, Spanned, Refused, Readable, Filled, Outcome, Due, outcome}
 
 -- a token that a formula may hold: a name is declared and short
@@ -57,32 +58,39 @@ pub record Broken (hs : List (List ℕ)) (cap k : ℕ) (pre : List Tok) (p : Pos
   pub stop : Pos
   pub spelled : pre ++ toks ≡ spell_part begun
   pub read : Lex p toks stop
-  pub good : AllByRecursion (Good hs) toks
+  pub good : All (Good hs) toks
   pub room : k + ended begun ≤ cap
   pub why : Why hs cap k (pre ++ toks) stop e
 
--- reading from p on, after the tokens `pre` of a formula, finishes it and lays its rows from k on
-pub record Formed (hs : List (List ℕ)) (pre : List Tok) (p : Pos) (s : List Row) (k : ℕ) (d : Done) (s' : List Row) : Type 0 where
+-- reading from p on, after the tokens `pre` of a formula, finishes it and lays its rows from k on, up to n
+pub record Formed (hs : List (List ℕ)) (pre : List Tok) (p : Pos) (s : List Row) (k : ℕ) (d : Done) (s' : List Row) (n : ℕ) : Type 0 where
   pub tree : Tree
   pub toks : List Tok
   pub rows : List Row
   pub spelled : pre ++ toks ≡ spell tree
   pub ends : Ends p toks d.last (pos_of d.after)
-  pub good : AllByRecursion (Good hs) toks
+  pub good : All (Good hs) toks
   pub laid : Rows hs k tree rows
   pub sized : length rows ≡ size tree
   pub strip : s' ≡ put s k rows
-  pub filled : d.filled ≡ k + length rows
-  pub fits : d.filled ≤ length s
+  pub filled : n ≡ k + length rows
+  pub number : d.row ≡ k + length rows - 1
+  pub fits : n ≤ length s
 
-abbrev pub FormulaTold : List (List ℕ) → List Tok → Cursor → List Row → ℕ → List Row → Result Done Fault → Type 0
-FormulaTold hs pre from s k s' (Ok d) = Formed hs pre (pos_of from) s k d s'
-FormulaTold hs pre from s k s' (Err e) = Broken hs (length s) k pre (pos_of from) e
+abbrev pub FormedAt : List (List ℕ) → List Tok → Pos → List Row → ℕ → List Row → ℕ → Result Done Fault → Type 0
+FormedAt hs pre p s k s' n (Ok d) = Formed hs pre p s k d s' n
+FormedAt hs pre p s k s' n (Err e) = Broken hs (length s) k pre p e
+
+abbrev pub FormulaTold : List (List ℕ) → List Tok → Cursor → Laid → Laid → Result Done Fault → Type 0
+FormulaTold hs pre from old new r = FormedAt hs pre (pos_of from) old.rows.now old.filled new.rows.now new.filled r
 
 -- one row is laid at k, if there is room
-abbrev pub RowTold : List Row → ℕ → Row → ℕ → Cursor → List Row → Result Done Fault → Type 0
-RowTold s k row last after s' (Ok d) = (k < length s) × (s' ≡ slice_set s k row) × (d ≡ record { after = after; last = last; filled = k + 1 })
-RowTold s k row last after s' (Err e) = (k ≡ length s) × (e ≡ fault UnfitRows last)
+abbrev pub LaidAt : List Row → ℕ → Row → ℕ → Cursor → List Row → ℕ → Result Done Fault → Type 0
+LaidAt s k row last after s' n (Ok d) = (k < length s) × (s' ≡ slice_set s k row) × (n ≡ k + 1) × (d ≡ record { row = k; last = last; after = after })
+LaidAt s k row last after s' n (Err e) = (k ≡ length s) × (e ≡ fault UnfitRows last)
+
+abbrev pub RowTold : Laid → Row → ℕ → Cursor → Laid → Result Done Fault → Type 0
+RowTold old row last after new r = LaidAt old.rows.now old.filled row last after new.rows.now new.filled r
 
 abbrev pub Joins : Tok → Type 0
 Joins (named x) = ⊥
@@ -119,15 +127,10 @@ abbrev pub name_at : List ℕ → Span → List ℕ
 name_at text n = take n.len (drop n.start text)
 
 abbrev pub names_in : List ℕ → List Span → List (List ℕ)
-names_in text [] = []
-names_in text (n ∷ ns) = name_at text n ∷ names_in text ns
+names_in text ns = map (name_at text) ns
 
 abbrev pub names_of : Header → List (List ℕ)
 names_of h = names_in h.text.now h.names.now
-
--- each name lies inside the text
-abbrev pub Inside : Header → Type 0
-Inside h = AllByRecursion (λ n. n.start + n.len ≤ length h.text.now) h.names.now
 
 abbrev pub SoughtIn : List (List ℕ) → List ℕ → Option ℕ → Type 0
 SoughtIn hs x (Some i) = Declared hs x i
@@ -170,7 +173,7 @@ pub record Headed (text : List ℕ) (old new : List Span) (n : ℕ) (p : Pos) : 
   pub read : Lex (begin text) (names hs) p
   pub count : n ≡ length hs
   pub names_are : names_in text (take n new) ≡ hs
-  pub inside : AllByRecursion (λ x. x.start + x.len ≤ length text) (take n new)
+  pub inside : All (λ x. x.start + x.len ≤ length text) (take n new)
   pub spanned : Spanned text hs (take n new)
   pub kept : drop n new ≡ drop n old
   pub here : p.rest ≡ drop p.at text

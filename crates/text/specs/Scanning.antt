@@ -3,8 +3,8 @@ use Rattle.std.specs.Prelude.{ℕ, List, Some, None, Ok, Err, Option, Result}
 use Rattle.std.specs.Borrow.{Bor}
 use Rattle.text.specs.declared.token.Token.{Token}
 use Rattle.text.specs.declared.token.Token.TheVariants.{Name, Colon, Open, Close, Constant, Unary, Binary}
-use Rattle.text.specs.declared.token.Cursor.{Cursor}
-use Rattle.text.specs.declared.token.Step.{Step}
+use Rattle.text.specs.declared.cursor.Cursor.{Cursor}
+use Rattle.text.specs.declared.cursor.Step.{Step}
 use Rattle.text.specs.declared.token.NoToken.{NoToken}
 use Rattle.text.specs.Tokens.{Tok, named, colon, opens, closes, constant, unary, binary, Begins, Pos, Next, Ended, Stuck}
 
@@ -29,7 +29,7 @@ abbrev pub Onward : Pos → Option Token → ℕ → Cursor → Type 0
 Onward p None place after = Ended p place
 Onward p (Some t) place after = Next p (shown t) place (pos_of after)
 
--- what comes next from the bytes s on, of which the first has the place `at`
-abbrev pub Scanned : List ℕ → ℕ → Result Step NoToken → Type 0
-Scanned s at (Ok r) = Onward (record { rest = s; at = at }) r.token r.place r.after
-Scanned s at (Err e) = Stuck (record { rest = s; at = at }) e.place
+-- what comes next from the cursor on
+abbrev pub Scanned : Cursor → Result Step NoToken → Type 0
+Scanned from (Ok r) = Onward (pos_of from) r.token r.place r.after
+Scanned from (Err e) = Stuck (pos_of from) e.place

@@ -1,6 +1,6 @@
 -- Which texts are read, into what, and which refusal is due for the others. Assumes nothing.
-use Rattle.std.specs.Prelude.{◌≡◌, ℕ, ◌<◌, ◌≤◌, false, List, [], ◌∷◌, ◌++◌, length, get_or, take, drop, Ok, Err, sum, Result, ◌≢◌, slice_index_or}
-use Rattle.std.specs.List.{AllByRecursion}
+use Rattle.std.specs.Prelude.{◌≡◌, ℕ, ◌<◌, ◌≤◌, false, List, [], ◌∷◌, ◌++◌, length, take, drop, Ok, Err, sum, Result, ◌≢◌, slice_index_or}
+use Rattle.std.specs.List.{All}
 use Rattle.rule.specs.declared.row.Row.{Row}
 use Rattle.rule.specs.declared.row.Row.TheVariants.{Constant}
 use Rattle.rule.specs.declared.refusal.Fault.{Fault}
@@ -48,7 +48,7 @@ pub record Refused (text : List ℕ) (n place : ℕ) : Type 0 where
 -- a header that is within the limits
 pub record Fine (header : List (List ℕ)) : Type 0 where
   pub few : length header ≤ 16
-  pub short : AllByRecursion (λ x. length x ≤ 12) header
+  pub short : All (λ x. length x ≤ 12) header
   pub apart : (i j : ℕ) → i < j → j < length header → slice_index_or header i [] ≢ slice_index_or header j []
 
 abbrev pub no_span : Span
@@ -57,8 +57,8 @@ no_span = record { start = 0; len = 0 }
 -- the spans of the header's names in the text
 pub record Spanned (text : List ℕ) (header : List (List ℕ)) (spans : List Span) : Type 0 where
   pub as_many : length spans ≡ length header
-  pub starts : (i : ℕ) → i < length header → Stands text (names (take i header)) (token (named (slice_index_or header i []))) (get_or spans i no_span).start
-  pub lengths : (i : ℕ) → i < length header → (get_or spans i no_span).len ≡ length (slice_index_or header i [])
+  pub starts : (i : ℕ) → i < length header → Stands text (names (take i header)) (token (named (slice_index_or header i []))) (slice_index_or spans i no_span).start
+  pub lengths : (i : ℕ) → i < length header → (slice_index_or spans i no_span).len ≡ length (slice_index_or header i [])
 
 -- the text is a rule, with these names and rows
 pub record Readable (text : List ℕ) (spans : List Span) (rows : List Row) : Type 0 where

@@ -1,10 +1,9 @@
 -- The tokens of a rule text, and how they stand in its bytes. Assumes nothing.
-use Rattle.std.specs.Prelude.{◌≡◌, ℕ, ◌+◌, Bool, true, false, ◌&&◌, ◌||◌, T, List, [], ◌∷◌, ◌++◌, length, ◌==◌, nat_le}
-use Rattle.std.specs.List.{AllByRecursion}
+use Rattle.std.specs.Prelude.{◌≡◌, ℕ, ◌+◌, Bool, true, false, ◌&&◌, ◌||◌, IsTrue, IsFalse, List, [], ◌∷◌, ◌++◌, length, ◌==◌, nat_le, codes}
+use Rattle.std.specs.List.{AllPass}
+use Rattle.rule.specs.Symbols.{unary_bytes, binary_bytes}
 use Rattle.rule.specs.declared.operator.UnaryOperator.{UnaryOperator}
-use Rattle.rule.specs.declared.operator.UnaryOperator.TheVariants.{Not, Yesterday, WeakYesterday, Once, Historically}
 use Rattle.rule.specs.declared.operator.BinaryOperator.{BinaryOperator}
-use Rattle.rule.specs.declared.operator.BinaryOperator.TheVariants.{And, Or, Implies, Iff, Xor, Since, WeakSince}
 
 -- a token; a name is its bytes
 pub data Tok : Type 0 where
@@ -14,32 +13,14 @@ pub data Tok : Type 0 where
   unary : UnaryOperator → Tok
   binary : BinaryOperator → Tok
 
--- how a token is written: ! Y Z O H
-abbrev pub unary_bytes : UnaryOperator → List ℕ
-unary_bytes Not = 33 ∷ []
-unary_bytes Yesterday = 89 ∷ []
-unary_bytes WeakYesterday = 90 ∷ []
-unary_bytes Once = 79 ∷ []
-unary_bytes Historically = 72 ∷ []
-
--- & | -> <-> ^ S W
-abbrev pub binary_bytes : BinaryOperator → List ℕ
-binary_bytes And = 38 ∷ []
-binary_bytes Or = 124 ∷ []
-binary_bytes Implies = 45 ∷ 62 ∷ []
-binary_bytes Iff = 60 ∷ 45 ∷ 62 ∷ []
-binary_bytes Xor = 94 ∷ []
-binary_bytes Since = 83 ∷ []
-binary_bytes WeakSince = 87 ∷ []
-
--- and : ( ) 1 0
+-- how a token is written
 abbrev pub bytes_of : Tok → List ℕ
 bytes_of (named x) = x
-bytes_of colon = 58 ∷ []
-bytes_of opens = 40 ∷ []
-bytes_of closes = 41 ∷ []
-bytes_of (constant true) = 49 ∷ []
-bytes_of (constant false) = 48 ∷ []
+bytes_of colon = codes ":"
+bytes_of opens = codes "("
+bytes_of closes = codes ")"
+bytes_of (constant true) = codes "1"
+bytes_of (constant false) = codes "0"
 bytes_of (unary o) = unary_bytes o
 bytes_of (binary o) = binary_bytes o
 
@@ -57,12 +38,12 @@ name_byte b = lower b || ((nat_le 48 b && nat_le b 57) || b == 95)
 -- a lower-case letter, and then bytes of a name
 abbrev pub IsName : List ℕ → Type 0
 IsName [] = ⊥
-IsName (b ∷ bs) = T (lower b) × AllByRecursion (λ x. T (name_byte x)) bs
+IsName (b ∷ bs) = IsTrue (lower b) × AllPass name_byte bs
 
 -- no byte of a name comes next
 abbrev pub Stops : List ℕ → Type 0
 Stops [] = Unit {0}
-Stops (b ∷ bs) = T (name_byte b) → ⊥
+Stops (b ∷ bs) = IsFalse (name_byte b)
 
 -- the token is whole where `left` follows it: a name goes as far as its bytes go
 abbrev pub Whole : Tok → List ℕ → Type 0
@@ -80,12 +61,12 @@ pub record Begins (s : List ℕ) (t : Tok) (left : List ℕ) : Type 0 where
   pub whole : Whole t left
 
 abbrev pub Blanks : List ℕ → Type 0
-Blanks s = AllByRecursion (λ b. T (blank b)) s
+Blanks s = AllPass blank s
 
 -- the bytes begin, and not with a blank
 abbrev pub Solid : List ℕ → Type 0
 Solid [] = ⊥
-Solid (b ∷ s) = T (blank b) → ⊥
+Solid (b ∷ s) = IsFalse (blank b)
 
 -- where reading stands: the bytes that are left, and the place of the first of them
 pub record Pos : Type 0 where

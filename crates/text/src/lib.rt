@@ -1,9 +1,10 @@
 //! Rule texts: bytes to tokens to rows.
 #![tactic(auto)]
 
-mod fault;
+mod cursor;
 mod formula;
 mod header;
+mod laid;
 mod reading;
 mod span;
 mod token;

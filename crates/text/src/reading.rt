@@ -1,13 +1,12 @@
 //! Reading a whole rule text into lent strips.
-ghost use Rattle.std.specs.Prelude.{◌≡◌, ◌+◌, ◌^◌, ◌<◌, length};
+ghost use Rattle.std.specs.Prelude.{◌≡◌, length};
 ghost use Rattle.text.specs.Texts.{Outcome, Due, outcome, Cleared, Left};
-ghost use Rattle.text.specs.Readers.{EndTold, TextTold, AttemptTold};
+ghost use Rattle.text.specs.Readers.{TextTold, AttemptTold};
 
-use super::fault::refuse;
 use super::formula::formula;
-use super::header::{Header, MOST_NAMES, head};
+use super::header::{Header, MOST_NAMES};
+use super::laid::Laid;
 use super::span::{Counts, Span};
-use super::token::{Cursor, next};
 use rule::{Fault, Refusal, Row};
 
 /// The most bytes that a text may have.
@@ -15,38 +14,24 @@ const MOST_BYTES: usize = 1024;
 /// The most rows that a text may lay.
 const MOST_ROWS: usize = 64;
 
-/// Checks that nothing but blanks is left.
-fn end(from: Cursor) -> Result<(), Fault>
-    requires { from.at + length from.rest.now < 2 ^ 64 }
-    ensures only_blanks { EndTold from.entry result }
-{
-    let step = next(from)?;
-    match step.token {
-        None => Ok(()),
-        Some(_) => Err(refuse(Refusal::OutOfPlace, step.place)),
-    }
-}
-
 /// Reads a text into strips that are just long enough. A refused one may leave them half filled.
+// Arrays would say both lengths, but what an array holds after it was lent is not known to be as long.
 fn parse(text: &[u8], rows: &mut [Row], names: &mut [Span]) -> Result<Counts, Fault>
     requires sixty_four_rows { length rows.old ≡ 64 }
     requires sixteen_names { length names.old ≡ 16 }
     ensures text_read { TextTold text.now rows.old rows.new names.old names.new result }
 {
-    let (count, from) = head(text, names)?;
-    let done = formula(
-        from,
-        Header {
-            text,
-            names: &names[0..count],
-        },
-        rows,
-        0,
-    )?;
-    end(done.after)?;
+    let (count, from) = Header::read(text, names)?;
+    let header = Header {
+        text,
+        names: &names[..count],
+    };
+    let mut laid = Laid { rows, filled: 0 };
+    let done = formula(from, header, &mut laid)?;
+    done.after.end()?;
     Ok(Counts {
         names: count,
-        rows: done.filled,
+        rows: laid.filled,
     })
 }
 
@@ -55,12 +40,12 @@ fn attempt(text: &[u8], rows: &mut [Row], names: &mut [Span]) -> Result<Counts, 
     ensures attempted { AttemptTold text.now rows.old rows.new names.old names.new result }
 {
     if rows.len() < MOST_ROWS || names.len() < MOST_NAMES {
-        return Err(refuse(Refusal::ShortStrip, 0));
+        return Err(Refusal::ShortStrip.into());
     }
     if text.len() > MOST_BYTES {
-        return Err(refuse(Refusal::LongText, 0));
+        return Err(Refusal::LongText.into());
     }
-    parse(text, &mut rows[0..MOST_ROWS], &mut names[0..MOST_NAMES])
+    parse(text, &mut rows[..MOST_ROWS], &mut names[..MOST_NAMES])
 }
 
 /// Sets the first `most` places, as far as there are so many.
@@ -68,8 +53,9 @@ fn clear<T: Copy>(strip: &mut [T], most: usize, value: T)
     ensures cleared { Cleared most value strip.old strip.new }
 {
     let end = most.min(strip.len());
-    for i in 0..end {
-        strip[i] = value;
+    // `fill` asks that a clone is the value itself, which the bound does not say.
+    for place in &mut strip[..end] {
+        *place = value;
     }
 }
 

@@ -1,9 +1,11 @@
 //! The tokens of a rule text.
-ghost use Rattle.std.specs.Prelude.{◌≡◌, ℕ, ◌+◌, ◌^◌, ◌<◌, ◌≤◌, T, length, slice_index};
+ghost use Rattle.std.specs.Prelude.{◌≡◌, ◌<◌, ◌++◌, true, false, length, slice_index, All};
+ghost use Rattle.rule.specs.declared.refusal.Refusal.TheVariants.{NoToken as no_token};
+ghost use Rattle.rule.specs.Faults.{fault};
 ghost use Rattle.text.specs.Tokens.{blank, name_byte};
-ghost use Rattle.text.specs.Scanning.{Found, Scanned};
+ghost use Rattle.text.specs.Scanning.{Found};
 
-use rule::{BinaryOperator, UnaryOperator};
+use rule::{BinaryOperator, Fault, Refusal, UnaryOperator};
 
 /// A token. A name shows its own bytes of the text; every other kind is always spelled alike.
 #[derive(Clone, Copy)]
@@ -17,28 +19,21 @@ pub(crate) enum Token<'a> {
     Binary(BinaryOperator),
 }
 
-/// Where reading stands: the bytes that are left, and the place of the first of them.
-#[derive(Clone, Copy)]
-pub(crate) struct Cursor<'a> {
-    pub(crate) rest: &'a [u8],
-    pub(crate) at: usize,
-}
-
-/// The next token, or none at the end of the text; its place, and where reading goes on.
-#[derive(Clone, Copy)]
-pub(crate) struct Step<'a> {
-    pub(crate) token: Option<Token<'a>>,
-    pub(crate) place: usize,
-    pub(crate) after: Cursor<'a>,
-}
-
 /// No token begins at `place`.
 #[derive(Clone, Copy)]
 pub(crate) struct NoToken {
     pub(crate) place: usize,
 }
 
-fn is_blank(b: u8) -> bool
+impl From<NoToken> for Fault {
+    ghost from_gives = { λ e f. f ≡ fault no_token e.place };
+
+    fn from(e: NoToken) -> Fault {
+        Fault::at(Refusal::NoToken, e.place)
+    }
+}
+
+pub(crate) fn is_blank(b: u8) -> bool
     ensures by_definition { result ≡ blank b }
 {
     matches!(b, b' ' | b'\t' | b'\n')
@@ -50,34 +45,19 @@ fn is_name_byte(b: u8) -> bool
     matches!(b, b'a'..=b'z' | b'0'..=b'9' | b'_')
 }
 
-/// How many bytes at the front are blank.
-fn blank_len(bytes: &[u8]) -> usize
-    ensures within { result ≤ length bytes.now }
-    ensures all_blank { (k : ℕ) → k < result → T (blank (slice_index bytes.now k)) }
-    ensures then_none { result < length bytes.now → T (blank (slice_index bytes.now result)) → ⊥ }
+/// The bytes at the front that pass the test, and the bytes after them.
+pub(crate) fn split_front<'a, F: Fn(u8) -> bool>(bytes: &'a [u8], test: F) -> (&'a [u8], &'a [u8])
+    requires { F.IsAlwaysCallable test }
+    ensures joined { bytes.now ≡ result.0.now ++ result.1.now }
+    ensures each_passes { All (λ b. F.post test b true) result.0.now }
+    ensures next_fails { 0 < length result.1.now → F.post test (slice_index result.1.now 0) false }
 {
-    let mut n = 0;
-    while n < bytes.len() && is_blank(bytes[n]) {
-        n += 1;
-    }
-    n
-}
-
-/// How many bytes at the front are bytes of a name.
-fn name_len(bytes: &[u8]) -> usize
-    ensures within { result ≤ length bytes.now }
-    ensures all_of_names { (k : ℕ) → k < result → T (name_byte (slice_index bytes.now k)) }
-    ensures then_none { result < length bytes.now → T (name_byte (slice_index bytes.now result)) → ⊥ }
-{
-    let mut n = 0;
-    while n < bytes.len() && is_name_byte(bytes[n]) {
-        n += 1;
-    }
-    n
+    bytes.split_at(bytes.iter().take_while(|b| test(**b)).count())
 }
 
 /// The token that begins the bytes, and the bytes after it.
-fn token_at<'a>(bytes: &'a [u8]) -> Option<(Token<'a>, &'a [u8])>
+#[tactic(auto, using(crate::proofs::Naming::token_fronts))]
+pub(crate) fn token_at<'a>(bytes: &'a [u8]) -> Option<(Token<'a>, &'a [u8])>
     ensures token_that_begins { Found bytes.now result }
 {
     match bytes {
@@ -99,40 +79,9 @@ fn token_at<'a>(bytes: &'a [u8]) -> Option<(Token<'a>, &'a [u8])>
         [b'S', after @ ..] => Some((Token::Binary(BinaryOperator::Since), after)),
         [b'W', after @ ..] => Some((Token::Binary(BinaryOperator::WeakSince), after)),
         [b'a'..=b'z', ..] => {
-            let (name, after) = bytes.split_at(name_len(bytes));
+            let (name, after) = split_front(bytes, is_name_byte);
             Some((Token::Name(name), after))
         }
         _ => None,
-    }
-}
-
-/// The next token, past the blanks.
-pub(crate) fn next<'a>(from: Cursor<'a>) -> Result<Step<'a>, NoToken>
-    requires { from.at + length from.rest.now < 2 ^ 64 }
-    ensures next_item { Scanned from.entry.rest.now from.entry.at result }
-{
-    let gap = blank_len(from.rest);
-    let here = &from.rest[gap..];
-    let place = from.at + gap;
-    if here.is_empty() {
-        return Ok(Step {
-            token: None,
-            place,
-            after: Cursor {
-                rest: here,
-                at: place,
-            },
-        });
-    }
-    match token_at(here) {
-        Some((token, rest)) => {
-            let at = place + (here.len() - rest.len());
-            Ok(Step {
-                token: Some(token),
-                place,
-                after: Cursor { rest, at },
-            })
-        }
-        None => Err(NoToken { place }),
     }
 }

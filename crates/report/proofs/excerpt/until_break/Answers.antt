@@ -1,12 +1,11 @@
-use Rattle.std.proofs.Common.{arith}
-use Rattle.report.proofs.Breaks.{until_more, until_at_break, until_all}
+use Rattle.std.proofs.Common.{sym, ◌∙◌, rules}
+use Rattle.std.proofs.lemmas.Bool.{false≢true}
+use Rattle.std.proofs.lemmas.Fn.{always_returns_same}
+use Rattle.report.specs.Excerpts.{is_break}
+use Rattle.report.proofs.Parts.{first_of_split}
 use Rattle.report.proofs.excerpt.until_break.Goals as goal
 
-pub loop-i-preserved : goal.loop-i-preserved
-loop-i-preserved c = until_more _ _ _ c.loop-i-test.true c.if-b-eq10.false c.loop-i.invariant
-
-pub returns-then-b-eq10 : goal.returns-then-b-eq10
-returns-then-b-eq10 c = record { by_definition = until_at_break _ c.loop-i.i _ _ c.loop-i-test.true (omega arith) c.if-b-eq10.true c.loop-i.invariant }
-
 pub returns : goal.returns
-returns c = record { by_definition = until_all _ _ _ c.loop-i-test.false c.loop-i.invariant }
+returns c =
+    let part = first_of_split _ _ _ _ is_break c.split.result.rest.now c.next.new.self.rest.now c.next.new.self.done c.next.result c.args.bytes c.next.ensures.steps (λ (done, _). false≢true (sym c.split.ensures.done ∙ done)) (always_returns_same _ _ _ (λ a r f k. search rules)) in
+    record { by_definition = rw (c.unwrap_or.ensures, part, c.split.ensures.rest) }

@@ -4,4 +4,7 @@ use Rattle.report.proofs.Made.{made_told}
 use Rattle.report.proofs.told.check_text.Goals as goal
 
 pub returns : goal.returns
-returns c = record { report_of_what_is_due = made_told string_bytes (check_report c.args.text.now) _ c.read-outcome.result c.read-outcome.new.rows c.read-outcome.new.names c.check_report.result c.read-outcome.ensures.outcome_is_due c.check_report.ensures.report }
+returns c =
+    let reading = c.read-reading.result in
+    let shown = rw c.read-reading.ensures.the_text at c.check_report.ensures.report in
+    record { report_of_what_is_due = made_told string_bytes (check_report c.args.text.now) _ reading.outcome reading.rows.now reading.names.now c.check_report.result c.read-reading.ensures.outcome_is_due shown }

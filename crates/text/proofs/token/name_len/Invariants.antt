@@ -1,9 +1,0 @@
-use Rattle.std.proofs.Common.{ℕ, ◌-◌, ◌<◌, ◌≤◌, T, length, get_or}
-use Rattle.text.specs.Tokens.{name_byte}
-use Rattle.text.proofs.token.name_len.Given as goal
-
-abbrev pub invariant-loop-n : goal.invariant-loop-n
-invariant-loop-n l = (l.n ≤ length l.bytes) × ((k : ℕ) → k < l.n → T (name_byte (get_or l.bytes k 0)))
-
-abbrev pub decreases-loop-n : goal.decreases-loop-n
-decreases-loop-n l = length l.bytes - l.n
