@@ -8,6 +8,8 @@ use cases::{Case, Charge};
 use std::alloc::AllocError;
 use std::fmt::Display;
 
+// Functions that add to a listing, and no `Display` of a case: it is written in this one listing alone.
+
 /// Adds each item, with a space before it.
 fn push_spaced<T: Display>(out: &mut String, items: &[T]) -> Result<(), AllocError>
     ensures adds { HasWords T.output → OnOk result

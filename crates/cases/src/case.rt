@@ -2,7 +2,8 @@
 use rule::Row;
 use scale::{Light, TwoWay};
 
-/// The samples of a charge on one of the scales, and the rule's value at each. Off two-way there is one signal.
+/// The samples of a charge on one of the scales, and the rule's value at each. On the other three there is one signal.
+// A list of readings and one of values, as an evaluator takes the readings; numbers, since a static calls no `From`.
 #[derive(Clone, Copy)]
 pub enum Charge {
     OnTwoWay {
@@ -25,6 +26,7 @@ pub enum Charge {
     },
 }
 
+/// A rule and a charge, with what comes out.
 #[derive(Clone, Copy)]
 pub struct Case {
     /// The rule as it is written.

@@ -25,7 +25,7 @@ module _ {S V : Type 0} (A : Algebra V) (means : S → V) (f : Formula S) (t : �
   unfolding row_value
   by_row r is =
       ap (λ s. value A s (signal_value A means f) t)
-      (row_spells f.rule.now.signals f.rule.now.rows.now f.row f.within (f.rule.now.each_fits f.row f.within)
+      (row_spells f.rule.now.signals f.rule.now.rows.now f.row f.within (f.rule.now.fit.each_fits f.row f.within)
       ∙ ap (formula (formulas [] f.rule.now.rows.now)) is)
 
   by_operand : (a : ℕ) (g : Formula S) → IsOperand f a g → value A (spelled f.rule.now.rows.now a) (signal_value A means f) ≡ row_value A means g

@@ -11,6 +11,7 @@ use rule::{BinaryOperator, Row, Rule, UnaryOperator};
 use scale::{Scale, TwoWay, firm_value};
 
 /// The formula that one row of a rule spells, over a charge whose readings stand sample after sample.
+// One slice of readings and no list of samples: that is how they lie in lent memory.
 #[derive(Drop)]
 struct Formula<'a, S> {
     rule: &'a Rule<'a>,
@@ -47,12 +48,14 @@ impl<S: Scale> Formula<'_, S> {
             .unwrap_or(S::no())
     }
 
+    // A loop for each of the four below, and no fold over a step. Tried: a closure in a cycle of calls becomes three more
+    // functions of the cycle, each with a contract and a measure to write.
+
     /// The join of its values at the samples up to t.
     #[cycle(evaluation)]
     fn once(&self, t: usize) -> S
         ensures joined { S.Scale.means result ≡ join_of S.Scale.ops (up_to t) (row_value S.Scale.ops S.Scale.means self.now) }
     {
-        // Loops and no folds, here and below: a closure in a cycle of calls wants a contract and measures of its own.
         let mut all = S::no();
         for k in 0..=t {
             all = self.value_at(k).join(all);
@@ -79,7 +82,7 @@ impl<S: Scale> Formula<'_, S> {
         ensures met { S.Scale.means result ≡ meet_of S.Scale.ops (after k t) (row_value S.Scale.ops S.Scale.means self.now) }
     {
         let mut all = S::yes();
-        // k + 1 may not fit, as j + 1 does; and std has no lemma of what `(k..=t).skip(1)` yields.
+        // `k + 1` could overflow, and `j + 1` cannot. Tried: `(k..=t).skip(1)`, where no lemma says what it yields.
         for j in k..t {
             all = self.value_at(j + 1).meet(all);
         }

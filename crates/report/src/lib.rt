@@ -3,12 +3,12 @@
 
 mod excerpt;
 mod listing;
-mod reading;
+mod read_text;
 mod refused;
 mod told;
 mod usage;
 mod visible;
 
-pub use reading::Reading;
+pub use read_text::ReadText;
 pub use told::{check_text, list_rows};
 pub use usage::{HELP, WRONG_USAGE};

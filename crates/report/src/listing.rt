@@ -22,7 +22,6 @@ fn bytes_at(text: &[u8], span: Span) -> &[u8]
     first(text.get(span.start..).unwrap_or(&[]), span.len)
 }
 
-// Two short loops and no shared one: over a closure that writes a line it would be longer, with clauses on the closure.
 /// The signals, one a line, each with its number.
 pub(crate) fn signal_listing(
     heap: Global,
@@ -31,6 +30,7 @@ pub(crate) fn signal_listing(
 ) -> Result<String, AllocError>
     ensures lines { IfOk result (λ s. string_bytes s ≡ numbered (signal_line text.now) 0 names.now) }
 {
+    // Two short loops and no shared one: over a closure that writes a line it would be longer, with clauses on the closure.
     let mut listing = String::new(heap);
     for (n, span) in names.iter().enumerate() {
         let name = Visible(bytes_at(text, *span));

@@ -3,36 +3,32 @@ ghost use Rattle.std.specs.Prelude.{◌≡◌, IfOk, string_bytes};
 ghost use Rattle.text.specs.Texts.{Due, outcome};
 ghost use Rattle.report.specs.Told.{Checked, Listed};
 
-use super::reading::Reading;
+use super::read_text::ReadText;
 use rule::Row;
 use std::alloc::{AllocError, Global};
-use text::{Span, read};
-
-const ROW_PLACES: usize = 64;
-
-const NAME_PLACES: usize = 16;
+use text::{MOST_NAMES, MOST_ROWS, Span, read};
 
 /// Places for the rows and the names that a reading fills.
 #[derive(Drop)]
-struct Strips {
-    rows: [Row; ROW_PLACES],
-    names: [Span; NAME_PLACES],
+struct Places {
+    rows: [Row; MOST_ROWS],
+    names: [Span; MOST_NAMES],
 }
 
-impl Strips {
-    const EMPTY: Strips = Strips {
-        rows: [Row::Constant(false); ROW_PLACES],
-        names: [Span { start: 0, len: 0 }; NAME_PLACES],
+impl Places {
+    const EMPTY: Places = Places {
+        rows: [Row::Constant(false); MOST_ROWS],
+        names: [Span { start: 0, len: 0 }; MOST_NAMES],
     };
 
-    /// Reads a text into the strips.
-    fn read<'a>(&'a mut self, text: &'a [u8]) -> Reading<'a>
+    /// Reads a text into these places.
+    fn read<'a>(&'a mut self, text: &'a [u8]) -> ReadText<'a>
         ensures outcome_is_due { Due text.now 64 16 (outcome result.rows.now result.names.now result.outcome) }
         ensures the_text { result.text.now ≡ text.now }
     {
-        let Strips { rows, names } = self;
+        let Places { rows, names } = self;
         let outcome = read(text, rows, names);
-        Reading {
+        ReadText {
             text,
             outcome,
             rows,
@@ -45,16 +41,16 @@ impl Strips {
 pub fn check_text(heap: Global, text: &[u8]) -> Result<String, AllocError>
     ensures report_of_what_is_due { IfOk result (λ s. Checked text.now (string_bytes s)) }
 {
-    let mut strips = Strips::EMPTY;
-    let reading = strips.read(text);
-    reading.check_report(heap)
+    let mut places = Places::EMPTY;
+    let read_text = places.read(text);
+    read_text.check_report(heap)
 }
 
 /// What `rules rows` prints of a text.
 pub fn list_rows(heap: Global, text: &[u8]) -> Result<String, AllocError>
     ensures report_of_what_is_due { IfOk result (λ s. Listed text.now (string_bytes s)) }
 {
-    let mut strips = Strips::EMPTY;
-    let reading = strips.read(text);
-    reading.rows_report(heap)
+    let mut places = Places::EMPTY;
+    let read_text = places.read(text);
+    read_text.rows_report(heap)
 }

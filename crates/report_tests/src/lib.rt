@@ -3,7 +3,7 @@
 
 #[cfg(test)]
 mod tests {
-    use report::{Reading, check_text, list_rows};
+    use report::{ReadText, check_text, list_rows};
     use rule::{BinaryOperator, Fault, Refusal, Row, UnaryOperator};
     use std::alloc::{AllocError, Global};
     use std::test::Fail;
@@ -15,7 +15,7 @@ mod tests {
         refusal: Refusal,
         place: usize,
     ) -> Result<String, AllocError> {
-        let reading = Reading {
+        let reading = ReadText {
             text: bytes,
             outcome: Err(Fault::at(refusal, place)),
             rows: &[],
@@ -36,7 +36,7 @@ mod tests {
             Span { start: 4, len: 4 },
             Span { start: 9, len: 100 },
         ];
-        let reading = Reading {
+        let reading = ReadText {
             text: bytes,
             outcome: Ok(counts),
             rows: &rows,
@@ -65,7 +65,7 @@ mod tests {
             Row::Binary(BinaryOperator::WeakSince, 6, 7),
             Row::Signal(9),
         ];
-        let reading = Reading {
+        let reading = ReadText {
             text: b"",
             outcome: Ok(Counts { names: 3, rows: 15 }),
             rows: &rows,
@@ -268,7 +268,7 @@ mod tests {
 
     #[test]
     fn rows_of_a_refused_text(rt: HostRuntime) -> Result<(), Fail> {
-        let reading = Reading {
+        let reading = ReadText {
             text: b"hot",
             outcome: Err(Refusal::LongText.into()),
             rows: &[Row::Constant(true)],

@@ -5,7 +5,7 @@ ghost use Rattle.rule.specs.Symbols.{unary_bytes, binary_bytes};
 use std::fmt;
 
 /// The operators over one row.
-#[derive(Clone, Copy, Debug, PartialEq)]
+#[derive(Clone, Copy, Debug, PartialEq, Eq)]
 pub enum UnaryOperator {
     /// `!`
     Not,
@@ -20,7 +20,7 @@ pub enum UnaryOperator {
 }
 
 /// The operators over two rows.
-#[derive(Clone, Copy, Debug, PartialEq)]
+#[derive(Clone, Copy, Debug, PartialEq, Eq)]
 pub enum BinaryOperator {
     /// `&`
     And,

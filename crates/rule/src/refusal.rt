@@ -43,8 +43,8 @@ pub enum Layer {
     Field,
 }
 
-/// A refusal with its place and the number of the sample it concerns. Where none applies users are told 0, so it is 0
-/// here too: an `Option` would be made 0 again wherever it is shown.
+/// A refusal with its place and the number of the sample it concerns, each 0 where none applies.
+// 0 is what users are told there, in print and in logs.
 #[derive(Clone, Copy, Debug, PartialEq, Eq)]
 pub struct Fault {
     pub refusal: Refusal,

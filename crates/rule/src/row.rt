@@ -9,7 +9,7 @@ use std::fmt;
 
 /// One occurrence of a formula. An operand is the number of an earlier row, and no pointer to it: rows lie in strips that
 /// a recorder lends, which has no heap for a tree.
-#[derive(Clone, Copy, Debug, PartialEq)]
+#[derive(Clone, Copy, Debug, PartialEq, Eq)]
 pub enum Row {
     Constant(bool),
     /// The reading of the signal of this number.

@@ -3,7 +3,8 @@ ghost use Rattle.std.specs.Prelude.{◌≡◌, ◌≤◌, false, [], ◌∷◌, 
 ghost use Rattle.rule.specs.declared.row.Row.TheVariants.{Constant};
 ghost use Rattle.rule.specs.Rows.{remembering};
 ghost use Rattle.rule.specs.Refusals.{number};
-ghost use Rattle.rule.specs.Fit.{EachFits, Fit, Unfit, Placeless};
+ghost use Rattle.rule.specs.Fit.{Fit, Unfit, Placeless};
+ghost use Rattle.std.proofs.Props.{props};
 ghost use Rattle.rule.specs.declared.refusal.Refusal.TheVariants.{UnfitRows};
 ghost use Rattle.rule.specs.Faults.{fault};
 
@@ -21,11 +22,7 @@ pub struct Rule<'a> {
     rows: &'a [Row],
     signals: usize,
     memory: usize,
-    ghost some_signals: { 1 ≤ signals },
-    ghost few_signals: { signals ≤ 16 },
-    ghost some_rows: { 1 ≤ length rows.now },
-    ghost few_rows: { length rows.now ≤ 384 },
-    ghost each_fits: { EachFits signals rows.now },
+    ghost fit: { Fit signals rows.now } by { Prim.hlevel props },
     ghost memory_counts: { memory ≡ count_by remembering rows.now },
 }
 
@@ -75,6 +72,7 @@ impl<'a> Rule<'a> {
     }
 
     /// Takes up the first `count` rows as the rule, over so many signals. A refusal leaves the rule as it was.
+    // The count stands beside the rows, and no shorter slice for both: that too few rows are lent is refused here.
     pub fn take_up(&mut self, rows: &'a [Row], count: usize, signals: usize) -> Result<(), Fault>
         ensures taken_exactly_if_fit { MatchResult result (λ _. (count ≤ length rows.now) × Fit signals (take count rows.now)) (λ f. Unfit rows.now count signals (number f.refusal) × Placeless f) }
         ensures new_rule_or_the_old { MatchResult result (λ _. (self.new.rows.now ≡ take count rows.now) × (self.new.signals ≡ signals)) (λ _. self.new ≡ self.old) }

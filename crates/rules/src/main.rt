@@ -14,6 +14,7 @@ fn bytes_of(rt: &HostRuntime, file: &str) -> Vec<u8> {
 
 fn obey(rt: &HostRuntime, command: &str, file: &str) -> io::Result<()> {
     let heap = rt.alloc();
+    // A line a command: a table of closures would hold the same lines.
     match command {
         "check" => rt.print(check_text(heap, bytes_of(rt, file).as_slice())?.as_str()),
         "rows" => rt.print(list_rows(heap, bytes_of(rt, file).as_slice())?.as_str()),

@@ -10,7 +10,7 @@ use Rattle.rule.specs.declared.row.Row.{Row}
 use Rattle.text.specs.declared.cursor.Cursor.{Cursor}
 use Rattle.text.specs.declared.span.Span.{Span}
 use Rattle.text.specs.declared.span.Counts.{Counts}
-use Rattle.text.specs.declared.laid.Done.{Done}
+use Rattle.text.specs.declared.formula.Done.{Done}
 use Rattle.text.specs.Tokens.{Tok, named, colon, constant, Pos, Next, Ended, Stuck, Lex, Item, token, nothing, finish, At}
 use Rattle.text.specs.Scanning.{pos_of}
 use Rattle.text.specs.Grammar.{Tree, truth, Spells, names, Text, Completes, Declared, Rows}
@@ -297,6 +297,6 @@ text_read {n} h {s} {s'} {d} {m} r cap_rows cap_names place w =
       names_filled = record { at_most = omega arith; same_length = omega arith; others_kept = f.kept };
     }
 
--- the strip that was lent holds the rows that were laid in it
-pub read_rows : {text : List ℕ} {rows rows' lent : List Row} {spans spans' : List Span} {c : Counts} → lent ≡ rows' → TextRead text rows rows' spans spans' c → TextRead text rows lent spans spans' c
-read_rows {text} {rows} {spans} {spans'} {c} e r = subst (λ z. TextRead text rows z spans spans' c) (sym e) r
+-- the strips that were lent hold what was laid in them
+pub read_lent : {text : List ℕ} {rows rows' lent_rows : List Row} {spans spans' lent_spans : List Span} {c : Counts} → lent_rows ≡ rows' → lent_spans ≡ spans' → TextRead text rows rows' spans spans' c → TextRead text rows lent_rows spans lent_spans c
+read_lent e f r = rw (e, f) r

@@ -10,7 +10,7 @@ use Rattle.rule.specs.declared.refusal.Fault.{Fault}
 use Rattle.rule.specs.declared.refusal.Refusal.TheVariants.{OutOfPlace}
 use Rattle.text.specs.declared.token.Token.{Token}
 use Rattle.text.specs.declared.cursor.Cursor.{Cursor}
-use Rattle.text.specs.declared.laid.Done.{Done}
+use Rattle.text.specs.declared.formula.Done.{Done}
 use Rattle.text.specs.Tokens.{Tok, named, opens, closes, unary, binary, bytes_of, Pos, Next, Lex}
 use Rattle.text.specs.Scanning.{shown, pos_of, Onward}
 use Rattle.text.specs.Grammar.{Tree, name, under, pair, Rows}

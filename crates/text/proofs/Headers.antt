@@ -1,15 +1,18 @@
 -- What the reader of headers answers, name by name. Assumes nothing.
-use Rattle.std.proofs.Common.{◌≡◌, ℕ, ◌+◌, ◌<◌, ◌≤◌, List, [], ◌∷◌, ◌++◌, length, get_or, take, drop, set, Some, None, Err, Option, MatchOption, ◌≢◌, sym, refl, ap, ◌∙◌, subst, ⊎_elim, arith, length-append, length-set}
+use Rattle.std.proofs.Common.{◌≡◌, ℕ, ◌+◌, ◌<◌, ◌≤◌, List, [], ◌∷◌, ◌++◌, length, get_or, take, drop, set, Some, None, Err, Option, MatchOption, ◌≢◌, inr, sym, refl, ap, ◌∙◌, subst, ⊎_elim, arith, length-append, length-set}
 use lib.Seq.{take-append-le}
 use Rattle.std.specs.List.{All, AllWithin, HoldsAt}
 use Rattle.std.proofs.lemmas.List.Elements.{All-push}
 use Rattle.std.proofs.str.Laws.{order}
 use Rattle.std.proofs.lemmas.List.{map-append, length-map, get_or-map, take_at, drop_at, drop-drop, drop-set-lt, take_more_set, get_or_push, get_or_append_left}
 use Rattle.rule.specs.declared.refusal.Fault.{Fault}
+use Rattle.rule.specs.declared.refusal.Refusal.TheVariants.{ManyNames}
+use Rattle.rule.specs.Faults.{fault}
 use Rattle.text.specs.declared.span.Span.{Span}
 use Rattle.text.specs.Tokens.{named, Pos, Next, Lex, token, Stands}
 use Rattle.text.specs.Grammar.{names, Declared}
 use Rattle.text.specs.Texts.{Fine, no_span, Spanned}
+use Rattle.text.specs.Strips.{LaidTold}
 use Rattle.text.specs.Readers.{Missing, name_at, names_in, SoughtIn, Admitted, begin, Follows, cut_off, unfit_name, HeadBroken, Headed}
 use Rattle.text.proofs.OneReading.{lex_append}
 use Rattle.text.proofs.Formulas.{lex_upto, step_onto, missing_as}
@@ -115,3 +118,18 @@ module _ (text : List ℕ) (old new : List Span) (n : ℕ) (p : Pos) (f : Headed
 
   pub name_refused : (q : Pos) (x : List ℕ) (place : ℕ) (e : Fault) → Next p (named x) place q → Admitted f.hs x place (Err e) → HeadBroken text e
   name_refused q x place e s h = record { hs = f.hs; fine = f.fine; stop = p; read = f.read; why = unfit_name place x q s h }
+
+  -- a name that is short and new is one name more, if there is a place for its span, and else one too many
+  module _ (q : Pos) (x : List ℕ) (place : ℕ) (s : Next p (named x) place q) (short : length x ≤ 12) (no' : (i : ℕ) → Declared f.hs x i → ⊥) where
+    pub lay_one : (after : List Span) (m i : ℕ) → LaidTold new n (record { start = place; len = length x }) after m (Some i) → Headed text old after m q
+    lay_one after m i h =
+        let count = f.count in
+        let long = f.long in
+        let lt = h.0 in
+        rw (h.1, h.2) (one_more text old new n p q x place f s short no' (λ e. omega arith))
+
+    pub no_room : (e : Fault) → n ≡ length new → e ≡ fault ManyNames place → HeadBroken text e
+    no_room e full is =
+        let count = f.count in
+        let long = f.long in
+        name_refused q x place e s (inr (inr (is, short, no', omega arith)))

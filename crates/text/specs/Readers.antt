@@ -1,5 +1,5 @@
 -- What the readers inside the crate answer. Assumes nothing.
-use Rattle.std.specs.Prelude.{◌≡◌, ℕ, ◌+◌, ◌-◌, ◌<◌, ◌≤◌, ◌⊎◌, List, [], ◌∷◌, ◌++◌, map, length, take, drop, Some, None, Ok, Err, Option, Result, MatchResult, ◌≢◌, slice_set}
+use Rattle.std.specs.Prelude.{◌≡◌, ℕ, ◌+◌, ◌-◌, ◌<◌, ◌≤◌, ◌⊎◌, List, [], ◌∷◌, ◌++◌, map, length, take, drop, Some, None, Ok, Err, Option, Result, MatchResult, slice_set, ⊤}
 use Rattle.std.specs.List.{All}
 use Rattle.rule.specs.declared.operator.BinaryOperator.{BinaryOperator}
 use Rattle.rule.specs.declared.row.Row.{Row}
@@ -10,8 +10,8 @@ use Rattle.text.specs.declared.cursor.Cursor.{Cursor}
 use Rattle.text.specs.declared.span.Span.{Span}
 use Rattle.text.specs.declared.span.Counts.{Counts}
 use Rattle.text.specs.declared.header.Header.{Header}
-use Rattle.text.specs.declared.laid.Done.{Done}
-use Rattle.text.specs.declared.laid.Laid.{Laid}
+use Rattle.text.specs.declared.formula.Done.{Done}
+use Rattle.text.specs.declared.strip.Strip.{Strip}
 use Rattle.text.specs.Tokens.{Tok, named, colon, opens, closes, constant, unary, binary, Pos, Next, Ended, Stuck, Lex}
 use Rattle.text.specs.Scanning.{pos_of}
 use Rattle.text.specs.Grammar.{Tree, names, Declared, Rows}
@@ -22,12 +22,12 @@ use Rattle.text.specs.Texts.{Fine, Spanned, Refused, Readable, Filled, Outcome, 
 -- a token that a formula may hold: a name is declared and short
 abbrev pub Good : List (List ℕ) → Tok → Type 0
 Good hs (named x) = (length x ≤ 12) × ((i : ℕ) × Declared hs x i)
-Good hs colon = Unit {0}
-Good hs opens = Unit {0}
-Good hs closes = Unit {0}
-Good hs (constant b) = Unit {0}
-Good hs (unary o) = Unit {0}
-Good hs (binary o) = Unit {0}
+Good hs colon = ⊤
+Good hs opens = ⊤
+Good hs closes = ⊤
+Good hs (constant b) = ⊤
+Good hs (unary o) = ⊤
+Good hs (binary o) = ⊤
 
 -- from p on at least one token is read, the last of them at `last`
 pub record Ends (p : Pos) (ts : List Tok) (last : ℕ) (q : Pos) : Type 0 where
@@ -77,20 +77,21 @@ pub record Formed (hs : List (List ℕ)) (pre : List Tok) (p : Pos) (s : List Ro
   pub number : d.row ≡ k + length rows - 1
   pub fits : n ≤ length s
 
+-- what reading a formula answers, where the rows lie in s and are laid from k on, up to n in s'
 abbrev pub FormedAt : List (List ℕ) → List Tok → Pos → List Row → ℕ → List Row → ℕ → Result Done Fault → Type 0
 FormedAt hs pre p s k s' n (Ok d) = Formed hs pre p s k d s' n
 FormedAt hs pre p s k s' n (Err e) = Broken hs (length s) k pre p e
 
-abbrev pub FormulaTold : List (List ℕ) → List Tok → Cursor → Laid → Laid → Result Done Fault → Type 0
-FormulaTold hs pre from old new r = FormedAt hs pre (pos_of from) old.rows.now old.filled new.rows.now new.filled r
+abbrev pub FormulaTold : List (List ℕ) → List Tok → Cursor → Strip Row → Strip Row → Result Done Fault → Type 0
+FormulaTold hs pre from old new r = FormedAt hs pre (pos_of from) old.places.now old.filled new.places.now new.filled r
 
 -- one row is laid at k, if there is room
 abbrev pub LaidAt : List Row → ℕ → Row → ℕ → Cursor → List Row → ℕ → Result Done Fault → Type 0
 LaidAt s k row last after s' n (Ok d) = (k < length s) × (s' ≡ slice_set s k row) × (n ≡ k + 1) × (d ≡ record { row = k; last = last; after = after })
 LaidAt s k row last after s' n (Err e) = (k ≡ length s) × (e ≡ fault UnfitRows last)
 
-abbrev pub RowTold : Laid → Row → ℕ → Cursor → Laid → Result Done Fault → Type 0
-RowTold old row last after new r = LaidAt old.rows.now old.filled row last after new.rows.now new.filled r
+abbrev pub RowTold : Strip Row → Row → ℕ → Cursor → Strip Row → Result Done Fault → Type 0
+RowTold old row last after new r = LaidAt old.places.now old.filled row last after new.places.now new.filled r
 
 abbrev pub Joins : Tok → Type 0
 Joins (named x) = ⊥
@@ -99,13 +100,13 @@ Joins opens = ⊥
 Joins closes = ⊥
 Joins (constant b) = ⊥
 Joins (unary o) = ⊥
-Joins (binary o) = Unit {0}
+Joins (binary o) = ⊤
 
 abbrev pub Shuts : Tok → Type 0
 Shuts (named x) = ⊥
 Shuts colon = ⊥
 Shuts opens = ⊥
-Shuts closes = Unit {0}
+Shuts closes = ⊤
 Shuts (constant b) = ⊥
 Shuts (unary o) = ⊥
 Shuts (binary o) = ⊥
@@ -136,9 +137,14 @@ abbrev pub SoughtIn : List (List ℕ) → List ℕ → Option ℕ → Type 0
 SoughtIn hs x (Some i) = Declared hs x i
 SoughtIn hs x None = (i : ℕ) → Declared hs x i → ⊥
 
--- whether a name may be the next of the header
+-- a name is sought, unless it is too long to be one
+abbrev pub FoundAt : List (List ℕ) → List ℕ → ℕ → Result (Option ℕ) Fault → Type 0
+FoundAt hs x place (Ok r) = (length x ≤ 12) × SoughtIn hs x r
+FoundAt hs x place (Err e) = (e ≡ fault LongName place) × (12 < length x)
+
+-- whether a name may be the next of the header; that there is no room for it is found when it is laid
 abbrev pub Admitted : List (List ℕ) → List ℕ → ℕ → Result (Unit {0}) Fault → Type 0
-Admitted hs x place (Ok u) = (length x ≤ 12) × ((i : ℕ) → Declared hs x i → ⊥) × (length hs ≢ 16)
+Admitted hs x place (Ok u) = (length x ≤ 12) × ((i : ℕ) → Declared hs x i → ⊥)
 Admitted hs x place (Err e) = ((e ≡ fault LongName place) × (12 < length x)) ⊎ (((e ≡ fault RepeatedName place) × (length x ≤ 12) × ((i : ℕ) × Declared hs x i)) ⊎ ((e ≡ fault ManyNames place) × (length x ≤ 12) × ((i : ℕ) → Declared hs x i → ⊥) × (length hs ≡ 16)))
 
 abbrev pub begin : List ℕ → Pos
@@ -146,7 +152,7 @@ begin text = record { rest = text; at = 0 }
 
 -- what may follow n names of a header
 abbrev pub Follows : ℕ → Tok → Type 0
-Follows n (named x) = Unit {0}
+Follows n (named x) = ⊤
 Follows n colon = 0 < n
 Follows n opens = ⊥
 Follows n closes = ⊥
@@ -187,9 +193,9 @@ pub record HeadRead (text : List ℕ) (old new : List Span) (n : ℕ) (after : C
   pub place : ℕ
   pub colon_is : Next last colon place (pos_of after)
 
-abbrev pub HeadTold : List ℕ → List Span → List Span → Result (ℕ × Cursor) Fault → Type 0
-HeadTold text old new (Ok x) = HeadRead text old new x.0 x.1
-HeadTold text old new (Err e) = HeadBroken text e
+abbrev pub HeadTold : List ℕ → List Span → List Span → ℕ → Result Cursor Fault → Type 0
+HeadTold text old new n (Ok after) = HeadRead text old new n after
+HeadTold text old new n (Err e) = HeadBroken text e
 
 -- only blanks are left, or something stands there
 abbrev pub EndTold : Cursor → Result (Unit {0}) Fault → Type 0

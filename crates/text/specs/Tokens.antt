@@ -1,5 +1,5 @@
 -- The tokens of a rule text, and how they stand in its bytes. Assumes nothing.
-use Rattle.std.specs.Prelude.{◌≡◌, ℕ, ◌+◌, Bool, true, false, ◌&&◌, ◌||◌, IsTrue, IsFalse, List, [], ◌∷◌, ◌++◌, length, ◌==◌, nat_le, codes}
+use Rattle.std.specs.Prelude.{◌≡◌, ℕ, ◌+◌, Bool, true, false, ◌&&◌, ◌||◌, IsTrue, IsFalse, List, [], ◌∷◌, ◌++◌, length, ◌==◌, nat_le, codes, ⊤}
 use Rattle.std.specs.List.{AllPass}
 use Rattle.rule.specs.Symbols.{unary_bytes, binary_bytes}
 use Rattle.rule.specs.declared.operator.UnaryOperator.{UnaryOperator}
@@ -42,18 +42,18 @@ IsName (b ∷ bs) = IsTrue (lower b) × AllPass name_byte bs
 
 -- no byte of a name comes next
 abbrev pub Stops : List ℕ → Type 0
-Stops [] = Unit {0}
+Stops [] = ⊤
 Stops (b ∷ bs) = IsFalse (name_byte b)
 
 -- the token is whole where `left` follows it: a name goes as far as its bytes go
 abbrev pub Whole : Tok → List ℕ → Type 0
 Whole (named x) left = IsName x × Stops left
-Whole colon left = Unit {0}
-Whole opens left = Unit {0}
-Whole closes left = Unit {0}
-Whole (constant b) left = Unit {0}
-Whole (unary o) left = Unit {0}
-Whole (binary o) left = Unit {0}
+Whole colon left = ⊤
+Whole opens left = ⊤
+Whole closes left = ⊤
+Whole (constant b) left = ⊤
+Whole (unary o) left = ⊤
+Whole (binary o) left = ⊤
 
 -- the token t begins the bytes s, and `left` follows it
 pub record Begins (s : List ℕ) (t : Tok) (left : List ℕ) : Type 0 where

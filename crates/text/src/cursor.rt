@@ -20,6 +20,19 @@ pub(crate) struct Step<'a> {
     pub(crate) after: Cursor<'a>,
 }
 
+impl Step<'_> {
+    ghost use Rattle.std.specs.Prelude.{◌≡◌};
+    ghost use Rattle.rule.specs.declared.refusal.Refusal.TheVariants.{OutOfPlace};
+    ghost use Rattle.rule.specs.Faults.{fault};
+
+    /// The fault of a token that may not stand here, or of the end of the text.
+    pub(crate) fn out_of_place(self) -> Fault
+        ensures at_its_place { result ≡ fault OutOfPlace self.entry.place }
+    {
+        Fault::at(Refusal::OutOfPlace, self.place)
+    }
+}
+
 impl<'a> Cursor<'a> {
     ghost use Rattle.text.specs.Scanning.{Scanned};
     ghost use Rattle.text.specs.Readers.{OperatorTold, ClosingTold, EndTold};
@@ -49,6 +62,8 @@ impl<'a> Cursor<'a> {
         })
     }
 
+    // The three below differ in the token that they take. A closure that picks it would hold the same match.
+
     /// The operator between the two formulas of a bracket.
     pub(crate) fn operator(self) -> Result<(BinaryOperator, Cursor<'a>), Fault>
         ensures if_next { OperatorTold self.entry result }
@@ -56,7 +71,7 @@ impl<'a> Cursor<'a> {
         let step = self.next_token()?;
         match step.token {
             Some(Token::Binary(operator)) => Ok((operator, step.after)),
-            _ => Err(Fault::at(Refusal::OutOfPlace, step.place)),
+            _ => Err(step.out_of_place()),
         }
     }
 
@@ -67,7 +82,7 @@ impl<'a> Cursor<'a> {
         let step = self.next_token()?;
         match step.token {
             Some(Token::Close) => Ok((step.place, step.after)),
-            _ => Err(Fault::at(Refusal::OutOfPlace, step.place)),
+            _ => Err(step.out_of_place()),
         }
     }
 
@@ -78,7 +93,7 @@ impl<'a> Cursor<'a> {
         let step = self.next_token()?;
         match step.token {
             None => Ok(()),
-            Some(_) => Err(Fault::at(Refusal::OutOfPlace, step.place)),
+            Some(_) => Err(step.out_of_place()),
         }
     }
 }

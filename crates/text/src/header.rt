@@ -3,11 +3,10 @@ ghost use Rattle.std.specs.Prelude.{◌≡◌, ◌+◌, ◌≤◌, length, All};
 
 use super::cursor::Cursor;
 use super::span::Span;
+use super::strip::Strip;
 use super::token::Token;
 use rule::{Fault, Refusal};
 
-/// The most names that a header may have.
-pub(crate) const MOST_NAMES: usize = 16;
 /// The most bytes that a name may have.
 const MOST_NAME_BYTES: usize = 12;
 
@@ -20,23 +19,27 @@ pub(crate) struct Header<'h> {
 }
 
 impl<'h> Header<'h> {
-    ghost use Rattle.text.specs.Readers.{names_of, SoughtIn, SignalTold, Admitted, HeadTold};
+    ghost use Rattle.text.specs.Readers.{names_of, FoundAt, SignalTold, Admitted, HeadTold};
 
-    /// The number of the signal with this name.
-    fn find(self, name: &[u8]) -> Option<usize>
-        ensures if_declared { SoughtIn (names_of self.entry) name.now result }
+    // The three below take a name and its place: the place only fills the fault, so a struct of both would be no plainer.
+
+    /// The number of the signal with this name. A name that is too long is refused at its place.
+    fn find(self, name: &[u8], place: usize) -> Result<Option<usize>, Fault>
+        ensures if_short { FoundAt (names_of self.entry) name.now place result }
     {
-        self.names.iter().position(|span| &self.text[span.start..span.start + span.len] == name)
+        if name.len() > MOST_NAME_BYTES {
+            return Err(Fault::at(Refusal::LongName, place));
+        }
+        let found = self.names.iter().position(|span| &self.text[span.start..span.start + span.len]
+            == name);
+        Ok(found)
     }
 
     /// The number of the signal that a name in a formula, at `place`, stands for.
     pub(crate) fn signal(self, name: &[u8], place: usize) -> Result<usize, Fault>
         ensures if_declared { SignalTold (names_of self.entry) name.now place result }
     {
-        if name.len() > MOST_NAME_BYTES {
-            return Err(Fault::at(Refusal::LongName, place));
-        }
-        self.find(name)
+        self.find(name, place)?
             .ok_or(Fault::at(Refusal::UndeclaredName, place))
     }
 
@@ -44,43 +47,40 @@ impl<'h> Header<'h> {
     fn admit(self, name: &[u8], place: usize) -> Result<(), Fault>
         ensures admitted { Admitted (names_of self.entry) name.now place result }
     {
-        if name.len() > MOST_NAME_BYTES {
-            return Err(Fault::at(Refusal::LongName, place));
+        match self.find(name, place)? {
+            None => Ok(()),
+            Some(_) => Err(Fault::at(Refusal::RepeatedName, place)),
         }
-        if self.find(name).is_some() {
-            return Err(Fault::at(Refusal::RepeatedName, place));
-        }
-        if self.names.len() == MOST_NAMES {
-            return Err(Fault::at(Refusal::ManyNames, place));
-        }
-        Ok(())
     }
 
-    /// Reads the names and the colon: how many names there are, and where the formula begins.
-    pub(crate) fn read(text: &'h [u8], names: &mut [Span]) -> Result<(usize, Cursor<'h>), Fault>
-        requires { length names.old ≡ 16 }
-        ensures header_read { HeadTold text.now names.old names.new result }
+    /// Reads the names and the colon into an empty strip, and answers where the formula begins.
+    pub(crate) fn read(text: &'h [u8], spans: &mut Strip<Span>) -> Result<Cursor<'h>, Fault>
+        requires sixteen_places { length spans.old.places.now ≡ 16 }
+        requires empty { spans.old.filled ≡ 0 }
+        ensures same_reference { spans.new.places.ghost_name ≡ spans.old.places.ghost_name }
+        ensures header_read { HeadTold text.now spans.old.places.now spans.new.places.now spans.new.filled result }
     {
         let mut from = Cursor { rest: text, at: 0 };
-        let mut count = 0;
         loop {
             let step = from.next_token()?;
             match step.token {
                 Some(Token::Name(name)) => {
                     let header = Header {
                         text,
-                        names: &names[..count],
+                        names: spans.laid(),
                     };
                     header.admit(name, step.place)?;
-                    names[count] = Span {
+                    let span = Span {
                         start: step.place,
                         len: name.len(),
                     };
-                    count += 1;
+                    spans
+                        .lay(span)
+                        .ok_or(Fault::at(Refusal::ManyNames, step.place))?;
                     from = step.after;
                 }
-                Some(Token::Colon) if count > 0 => return Ok((count, step.after)),
-                _ => return Err(Fault::at(Refusal::OutOfPlace, step.place)),
+                Some(Token::Colon) if spans.filled > 0 => return Ok(step.after),
+                _ => return Err(step.out_of_place()),
             }
         }
     }

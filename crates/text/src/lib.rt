@@ -4,10 +4,10 @@
 mod cursor;
 mod formula;
 mod header;
-mod laid;
 mod reading;
 mod span;
+mod strip;
 mod token;
 
-pub use reading::read;
+pub use reading::{MOST_NAMES, MOST_ROWS, read};
 pub use span::{Counts, Span};

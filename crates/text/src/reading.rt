@@ -4,34 +4,43 @@ ghost use Rattle.text.specs.Texts.{Outcome, Due, outcome, Cleared, Left};
 ghost use Rattle.text.specs.Readers.{TextTold, AttemptTold};
 
 use super::formula::formula;
-use super::header::{Header, MOST_NAMES};
-use super::laid::Laid;
+use super::header::Header;
 use super::span::{Counts, Span};
+use super::strip::Strip;
 use rule::{Fault, Refusal, Row};
 
 /// The most bytes that a text may have.
 const MOST_BYTES: usize = 1024;
 /// The most rows that a text may lay.
-const MOST_ROWS: usize = 64;
+pub const MOST_ROWS: usize = 64;
+/// The most names that a header may have.
+pub const MOST_NAMES: usize = 16;
 
 /// Reads a text into strips that are just long enough. A refused one may leave them half filled.
-// Arrays would say both lengths, but what an array holds after it was lent is not known to be as long.
+// Tried: arrays, which say both lengths. Of an array that was lent the check does not know that it is still as long.
 fn parse(text: &[u8], rows: &mut [Row], names: &mut [Span]) -> Result<Counts, Fault>
     requires sixty_four_rows { length rows.old ≡ 64 }
     requires sixteen_names { length names.old ≡ 16 }
     ensures text_read { TextTold text.now rows.old rows.new names.old names.new result }
 {
-    let (count, from) = Header::read(text, names)?;
+    let mut spans = Strip {
+        places: names,
+        filled: 0,
+    };
+    let from = Header::read(text, &mut spans)?;
     let header = Header {
         text,
-        names: &names[..count],
+        names: spans.laid(),
     };
-    let mut laid = Laid { rows, filled: 0 };
-    let done = formula(from, header, &mut laid)?;
+    let mut rows = Strip {
+        places: rows,
+        filled: 0,
+    };
+    let done = formula(from, header, &mut rows)?;
     done.after.end()?;
     Ok(Counts {
-        names: count,
-        rows: laid.filled,
+        names: spans.filled,
+        rows: rows.filled,
     })
 }
 
@@ -53,7 +62,7 @@ fn clear<T: Copy>(strip: &mut [T], most: usize, value: T)
     ensures cleared { Cleared most value strip.old strip.new }
 {
     let end = most.min(strip.len());
-    // `fill` asks that a clone is the value itself, which the bound does not say.
+    // `fill` asks that a clone is the value itself, which `T: Copy` does not say.
     for place in &mut strip[..end] {
         *place = value;
     }

@@ -5,6 +5,6 @@ use Rattle.report.proofs.told.check_text.Goals as goal
 
 pub returns : goal.returns
 returns c =
-    let reading = c.read-reading.result in
-    let shown = rw c.read-reading.ensures.the_text at c.check_report.ensures.report in
-    record { report_of_what_is_due = made_told string_bytes (check_report c.args.text.now) _ reading.outcome reading.rows.now reading.names.now c.check_report.result c.read-reading.ensures.outcome_is_due shown }
+    let reading = c.read-read_text.result in
+    let shown = rw c.read-read_text.ensures.the_text at c.check_report.ensures.report in
+    record { report_of_what_is_due = made_told string_bytes (check_report c.args.text.now) _ reading.outcome reading.rows.now reading.names.now c.check_report.result c.read-read_text.ensures.outcome_is_due shown }

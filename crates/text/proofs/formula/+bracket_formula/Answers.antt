@@ -49,12 +49,12 @@ formula-returns-in-Some-Open-clause-formula_read t c =
     let s = step_at _ _ Open _ _ c.in_ok-step.ensures.next_item (grind arith) in
     open_formed _ _ _ _ _ _ s c.bracket.ensures.bracket_read
 
-apart : (t : ℕ) (c : goal.formula-After-at t) (u : Token) → c.in_ok-step.step.token ≡ Some u → Opening (shown u) → ⊥
+apart : (t : ℕ) (c : goal.formula-After-out_of_place t) (u : Token) → c.in_ok-step.step.token ≡ Some u → Opening (shown u) → ⊥
 apart t c u e w = grind arith
 
 pub formula-returns-in-Some-Colon-clause-formula_read : goal.formula-returns-in-Some-Colon-clause-formula_read
 formula-returns-in-Some-Colon-clause-formula_read t c =
-    rw c.at.ensures.at_place (start_refused _ _ _ _ _ (omega arith) (not_wanted Opening _ _ _ _ c.in_ok-step.ensures.next_item (apart t c)))
+    rw c.out_of_place.ensures.at_its_place (start_refused _ _ _ _ _ (omega arith) (not_wanted Opening _ _ _ _ c.in_ok-step.ensures.next_item (apart t c)))
 
 -- the readers of a bracket
 

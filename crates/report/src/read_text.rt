@@ -1,4 +1,4 @@
-//! A reading and its reports.
+//! A text that was read, and its reports.
 ghost use Rattle.std.specs.Prelude.{◌≡◌, IfOk, string_bytes};
 
 use super::listing::{first, row_listing, signal_listing};
@@ -9,15 +9,16 @@ use text::{Counts, Span};
 
 /// A text, and what came of reading it: its rule stands in the first places of `rows` and `names`, or a fault says why
 /// the text was refused.
+// The counts of the outcome and whole strips, as `text::read` leaves them in lent memory.
 #[derive(Clone, Copy)]
-pub struct Reading<'a> {
+pub struct ReadText<'a> {
     pub text: &'a [u8],
     pub outcome: Result<Counts, Fault>,
     pub rows: &'a [Row],
     pub names: &'a [Span],
 }
 
-impl Reading<'_> {
+impl ReadText<'_> {
     ghost use Rattle.report.specs.Reports.{check_report, rows_report};
 
     /// The report of a check: the signals and counts of the rule, or why the text was refused, and where.

@@ -1,5 +1,5 @@
 use Rattle.std.proofs.Common.{◌≡◌, length, refl, arith}
-use Rattle.report.proofs.told.Strips.read.Goals as goal
+use Rattle.report.proofs.told.Places.read.Goals as goal
 
 pub returns : goal.returns
 returns c =
