@@ -4,7 +4,7 @@ use scale::{Light, TwoWay};
 
 /// The samples of a charge on one of the scales, and the rule's value at each. On the other three there is one signal.
 // A list of readings and one of values, as an evaluator takes the readings; numbers, since a static calls no `From`.
-#[derive(Clone, Copy)]
+#[derive(Clone, Copy, Debug)]
 pub enum Charge {
     OnTwoWay {
         signals: usize,
@@ -27,7 +27,7 @@ pub enum Charge {
 }
 
 /// A rule and a charge, with what comes out.
-#[derive(Clone, Copy)]
+#[derive(Clone, Copy, Debug)]
 pub struct Case {
     /// The rule as it is written.
     pub text: &'static str,

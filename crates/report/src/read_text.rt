@@ -10,7 +10,7 @@ use text::{Counts, Span};
 /// A text, and what came of reading it: its rule stands in the first places of `rows` and `names`, or a fault says why
 /// the text was refused.
 // The counts of the outcome and whole strips, as `text::read` leaves them in lent memory.
-#[derive(Clone, Copy)]
+#[derive(Clone, Copy, Debug)]
 pub struct ReadText<'a> {
     pub text: &'a [u8],
     pub outcome: Result<Counts, Fault>,

@@ -17,7 +17,7 @@ const MOST_SIGNALS: usize = 16;
 const MOST_ROWS: usize = 384;
 
 /// A rule over lent rows. The last row is the rule itself.
-#[derive(Clone, Copy)]
+#[derive(Clone, Copy, Debug)]
 pub struct Rule<'a> {
     rows: &'a [Row],
     signals: usize,

@@ -76,12 +76,10 @@ pub fn read(text: &[u8], rows: &mut [Row], names: &mut [Span]) -> Result<Counts,
     ensures no_other_is_due { (o : Outcome) → Due text.now (length rows.old) (length names.old) o → o ≡ outcome rows.new names.new result }
     ensures strips_left { Left rows.old rows.new names.old names.new result }
 {
-    match attempt(text, rows, names) {
-        Ok(counts) => Ok(counts),
-        Err(fault) => {
-            clear(rows, MOST_ROWS, Row::Constant(false));
-            clear(names, MOST_NAMES, Span { start: 0, len: 0 });
-            Err(fault)
-        }
+    let outcome = attempt(text, rows, names);
+    if outcome.is_err() {
+        clear(rows, MOST_ROWS, Row::Constant(false));
+        clear(names, MOST_NAMES, Span { start: 0, len: 0 });
     }
+    outcome
 }
