@@ -10,6 +10,7 @@ use std::alloc::{AllocError, Global};
 pub fn list_cases(heap: Global) -> Result<String, AllocError>
     ensures listed { IfOk result (λ s. string_bytes s ≡ case_lines) }
 {
+    // A loop of its own, as for other listings: one over a closure that writes a line would be longer.
     let mut listing = String::new(heap);
     for (k, case) in worked_cases().iter().enumerate() {
         push_case_line(&mut listing, k + 1, case)?;

@@ -3,7 +3,7 @@ use rule::Row;
 use scale::{Light, TwoWay};
 
 /// The samples of a charge on one of the scales, and the rule's value at each. On the other three there is one signal.
-// A list of readings and one of values, as an evaluator takes the readings; numbers, since a static calls no `From`.
+// A list of readings and one of values, as they are written; numbers on lanes and margins, since a static calls no `From`.
 #[derive(Clone, Copy, Debug)]
 pub enum Charge {
     OnTwoWay {

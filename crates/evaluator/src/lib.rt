@@ -24,6 +24,7 @@ impl<S: Scale> Formula<'_, S> {
     ghost use Rattle.evaluator.specs.Rows.{signal_value, row_value};
 
     /// The formula of row a, an operand of this one.
+    // That the operand's row comes earlier is what ends the recursion; each rule's rows have it by their type.
     fn operand(&self, a: usize) -> Self
         requires { a < self.now.row }
         ensures same_rule { result.rule.now ≡ self.now.rule.now }

@@ -9,7 +9,8 @@ use text::{Counts, Span};
 
 /// A text, and what came of reading it: its rule stands in the first places of `rows` and `names`, or a fault says why
 /// the text was refused.
-// The counts of the outcome and whole strips, as `text::read` leaves them in lent memory.
+// The counts of the outcome and whole strips, as `text::read` leaves them in lent memory, and as the definition of what
+// is reported takes them.
 #[derive(Clone, Copy, Debug)]
 pub struct ReadText<'a> {
     pub text: &'a [u8],

@@ -142,7 +142,7 @@ abbrev pub FoundAt : List (List ℕ) → List ℕ → ℕ → Result (Option ℕ
 FoundAt hs x place (Ok r) = (length x ≤ 12) × SoughtIn hs x r
 FoundAt hs x place (Err e) = (e ≡ fault LongName place) × (12 < length x)
 
--- whether a name may be the next of the header; that there is no room for it is found when it is laid
+-- whether a name may be the next of the header; the last case is found when the name is laid
 abbrev pub Admitted : List (List ℕ) → List ℕ → ℕ → Result (Unit {0}) Fault → Type 0
 Admitted hs x place (Ok u) = (length x ≤ 12) × ((i : ℕ) → Declared hs x i → ⊥)
 Admitted hs x place (Err e) = ((e ≡ fault LongName place) × (12 < length x)) ⊎ (((e ≡ fault RepeatedName place) × (length x ≤ 12) × ((i : ℕ) × Declared hs x i)) ⊎ ((e ≡ fault ManyNames place) × (length x ≤ 12) × ((i : ℕ) → Declared hs x i → ⊥) × (length hs ≡ 16)))

@@ -54,6 +54,7 @@ impl<'h> Header<'h> {
     }
 
     /// Reads the names and the colon into an empty strip, and answers where the formula begins.
+    // Asked of its one caller, `parse`, which makes the strip: arrays were tried there, and do not say how long they are.
     pub(crate) fn read(text: &'h [u8], spans: &mut Strip<Span>) -> Result<Cursor<'h>, Fault>
         requires sixteen_places { length spans.old.places.now ≡ 16 }
         requires empty { spans.old.filled ≡ 0 }

@@ -2,7 +2,8 @@
 ghost use Rattle.std.specs.Prelude.{◌≡◌, ◌≤◌, length};
 
 /// A lent strip, of which the first `filled` places are laid: a recorder has no heap for a `Vec`.
-// Each call that fills it says that it is still the strip that was lent, since that is what its lender finds changed.
+// Each call that fills it says that it is still the strip that was lent: the language asks that of a struct that holds a
+// `&mut`.
 #[derive(Drop)]
 pub(crate) struct Strip<'s, T> {
     pub(crate) places: &'s mut [T],

@@ -46,6 +46,7 @@ fn is_name_byte(b: u8) -> bool
 }
 
 /// The bytes at the front that pass the test, and the bytes after them.
+// What it asks is that the test may be called, as each function that takes a closure does.
 pub(crate) fn split_front<'a, F: Fn(u8) -> bool>(bytes: &'a [u8], test: F) -> (&'a [u8], &'a [u8])
     requires { F.IsAlwaysCallable test }
     ensures joined { bytes.now ≡ result.0.now ++ result.1.now }
