@@ -37,7 +37,7 @@ bit_of_or a b i = ap (λ n. n == 1) (bit_at_or a b i) ∙ max_bit _ _ (bit_at-lt
 pub bit_of_and : (a b i : ℕ) → bit (bit_and a b) i ≡ (bit a i && bit b i)
 bit_of_and a b i = ap (λ n. n == 1) (bit_at_and a b i) ∙ min_bit _ _ (bit_at-lt a i) (bit_at-lt b i)
 
-bit_opposite : (a i : ℕ) → a < 2 ^ 64 → i < 64 → bit (18446744073709551615 - a) i ≡ not (bit a i)
+pub bit_opposite : (a i : ℕ) → a < 2 ^ 64 → i < 64 → bit (18446744073709551615 - a) i ≡ not (bit a i)
 bit_opposite a i fits h = ap (λ n. n == 1) (bit_at_not w64 a i fits h) ∙ other_bit _ (bit_at-lt a i)
 
 -- a stored number

@@ -17,8 +17,8 @@ pub use translate::{firm_value, lane_of};
 pub use two_way::TwoWay;
 
 /// A scale of truth. Each operation answers a value decided by the values it takes, and refuses nothing.
-// On an ordered scale join is `max` and meet is `min`. Each such scale says so itself: a blanket impl would be that of
-// lanes too, which are not ordered.
+// On an ordered scale join is the greater and meet the lesser. Each such scale says so itself: a blanket impl would be
+// that of lanes too, which are not ordered.
 pub trait Scale: Copy {
     /// The values that stored ones mean.
     ghost Value: { Type 0 };

@@ -41,12 +41,19 @@ impl Scale for TwoWay {
 
     ghost lawful = { two_way_laws };
 
+    // Both by cases: `max` and `min` of the derived order take three times as long.
     fn join(self, other: TwoWay) -> TwoWay {
-        self.max(other)
+        match self {
+            TwoWay::No => other,
+            TwoWay::Yes => TwoWay::Yes,
+        }
     }
 
     fn meet(self, other: TwoWay) -> TwoWay {
-        self.min(other)
+        match self {
+            TwoWay::No => TwoWay::No,
+            TwoWay::Yes => other,
+        }
     }
 
     fn opposite(self) -> TwoWay {
