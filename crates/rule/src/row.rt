@@ -50,7 +50,7 @@ impl Row {
 pub fn count_remembering(rows: &[Row]) -> usize
     ensures counts { result ≡ count_by remembering rows.now }
 {
-    rows.iter().filter(|row| row.remembers()).count()
+    rows.iter().copied().filter(|row| row.remembers()).count()
 }
 
 impl fmt::Display for Row {
