@@ -50,7 +50,14 @@ impl Row {
 pub fn count_remembering(rows: &[Row]) -> usize
     ensures counts { result ≡ count_by remembering rows.now }
 {
-    rows.iter().copied().filter(|row| row.remembers()).count()
+    // A loop: with `filter` and `count` here, a rule took 1.7 times as long to take up.
+    let mut n = 0;
+    for row in rows {
+        if row.remembers() {
+            n += 1;
+        }
+    }
+    n
 }
 
 impl fmt::Display for Row {
