@@ -24,6 +24,7 @@ fn visible_byte(b: u8) -> u8
 }
 
 /// The bytes as they are shown: a text that is written into the first of the places.
+// Asked of its one caller, which has the pieces from `chunks`: a type for a piece would be no plainer.
 fn show<'p>(bytes: &[u8], places: &'p mut [u8; PIECE]) -> &'p str
     requires one_piece { length bytes.now ≤ PIECE }
     ensures as_shown { result.now ≡ map visible bytes.now }
